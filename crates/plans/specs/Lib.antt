@@ -1,0 +1,15 @@
+pub mod Lists
+pub mod Words
+pub mod Targets
+pub mod Faults
+pub mod Reads
+pub mod Layout
+pub mod Order
+pub mod Record
+pub mod Accepted
+pub mod Decoded
+pub mod Repeat
+pub mod Plan
+pub mod Meaning
+pub mod Names
+pub mod Laws
