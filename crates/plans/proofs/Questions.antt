@@ -6,7 +6,7 @@ use native.Mathlib.Omega.{arith}
 use lib.ListN.{length, getD}
 use Rattle.std.specs.Options.{mapped, flattened}
 use Rattle.std.specs.shelf.Maps.{nth}
-use Rattle.std.proofs.shelf.Lists.{length-map, length-take-le}
+use Rattle.std.proofs.shelf.Lists.{length-map, length-take-le, getD-take}
 use Rattle.std.proofs.shelf.Maps.{nth-past, nth-getD}
 use Rattle.std.specs.declared.option.Option.{Option}
 use Rattle.std.specs.declared.option.Option.the-variants.{Some, None}
@@ -61,6 +61,20 @@ module _ (r : Record) where
   link-in j h =
       nth-map (planLink (tasksOf (r .tasks))) (linksOf r) j
       ∙ ap (mapped (planLink (tasksOf (r .tasks)))) (nth-getD (linksOf r) j noLink (omega (arith, links-long r)))
+
+  pub no-params : (t : ℕ) → r .tasks .count ≤ t → None ≡ nth (tasksOf (r .tasks)) t
+  no-params t h = sym (nth-past (tasksOf (r .tasks)) t (omega (arith, tasks-long (r .tasks))))
+
+  pub the-params : (t : ℕ) → t < r .tasks .count → Some (getD (r .tasks .each) t noTask) ≡ nth (tasksOf (r .tasks)) t
+  the-params t h =
+      ap Some (sym (getD-take (r .tasks .count) (r .tasks .each) t noTask h))
+      ∙ sym (nth-getD (tasksOf (r .tasks)) t noTask (omega (arith, tasks-long (r .tasks))))
+
+  pub no-link : (j : ℕ) → r .«link_count» ≤ j → None ≡ nth (linksOf r) j
+  no-link j h = sym (nth-past (linksOf r) j (omega (arith, links-long r)))
+
+  pub the-link : (j : ℕ) → j < r .«link_count» → Some (getD (r .links) j noLink) ≡ nth (linksOf r) j
+  the-link j h = ap Some (sym (link-here r j h)) ∙ sym (nth-getD (linksOf r) j noLink (omega (arith, links-long r)))
 
   pub no-ends : (j : ℕ) → r .«link_count» ≤ j → None ≡ linkEnds plan j
   no-ends j h = sym (ap (mapped (λ k. k .ends)) (link-out j h))

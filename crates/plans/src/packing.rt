@@ -3,6 +3,7 @@ ghost use Prim.Native.Nat.{_+_, _≤_};
 ghost use denote.Ref.{ptr};
 ghost use lib.ListN.{length as long, take, drop};
 ghost use Rattle.std.specs.Options.{Cases};
+ghost use Rattle.std.specs.shelf.Maps.{nth};
 ghost use Rattle.plans.specs.Names.{nameAt, Named};
 ghost use mathlib.Core.Path.{_≡_};
 ghost use Rattle.plans.specs.Plan.{lawful};
@@ -23,6 +24,7 @@ use crate::shapes::Params;
 use crate::source::Source;
 use crate::task::Task;
 use crate::tasks::Tasks;
+use crate::word::Word;
 
 // The record without tasks.
 fn empty() -> Record
@@ -63,6 +65,7 @@ impl<'a> Packed<'a> {
     // The plan that bytes describe, or the empty plan where they do not pass the check.
     pub fn new(bytes: &'a [u8]) -> Self
         ensures bytes { λ r. ⌜ now (r .bytes) ≡ now (bytes .entry) ⌝ }
+        ensures place { λ r. ⌜ ptr (r .bytes) ≡ ptr (bytes .entry) ⌝ }
         ensures parts { λ r. ⌜ shown (r .parts) ≡ partsOr (checked (now (bytes .entry))) ⌝ }
     {
         let parts = parts_of(bytes);
@@ -79,6 +82,28 @@ impl<'a> Packed<'a> {
         }
         let name = self.parts.names[task];
         Some(part(self.bytes, name.at, name.length))
+    }
+}
+
+impl<'a> Packed<'a> {
+    // A task's parameters, as the record has them.
+    pub fn params(&self, task: usize) -> Option<Params>
+        ensures { λ r. ⌜ r ≡ nth (shown (now (self .entry) .parts) .tasks) task ⌝ }
+    {
+        if task >= self.parts.tasks.count {
+            return None;
+        }
+        Some(self.parts.tasks.each[task])
+    }
+
+    // A link with its rules, as the record has it.
+    pub fn link(&self, link: usize) -> Option<Link>
+        ensures { λ r. ⌜ r ≡ nth (shown (now (self .entry) .parts) .links) link ⌝ }
+    {
+        if link >= self.parts.link_count {
+            return None;
+        }
+        Some(self.parts.links[link])
     }
 }
 
@@ -106,15 +131,15 @@ pub impl<'a> Source for Packed<'a> as PackedSource {
         Some(task.word_count())
     }
 
-    fn word_at(&self, task: usize, place: u32) -> Option<u32> {
+    fn word_at(&self, task: usize, place: u32) -> Option<Word> {
         self.parts.tasks.find(task)?.word_at(place)
     }
 
-    fn place_of(&self, task: usize, word: u32) -> Option<u32> {
+    fn place_of(&self, task: usize, word: Word) -> Option<u32> {
         self.parts.tasks.find(task)?.place_of(word)
     }
 
-    fn next_word(&self, task: usize, word: u32) -> Option<u32> {
+    fn next_word(&self, task: usize, word: Word) -> Option<Word> {
         self.parts.tasks.find(task)?.next(word)
     }
 
@@ -129,7 +154,7 @@ pub impl<'a> Source for Packed<'a> as PackedSource {
         Some(self.parts.links[link].ends)
     }
 
-    fn target(&self, link: usize, word: u32) -> Option<u32> {
+    fn target(&self, link: usize, word: Word) -> Option<Word> {
         if link >= self.parts.link_count {
             return None;
         }
