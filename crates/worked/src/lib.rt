@@ -1,0 +1,14 @@
+// Worked records, and what is proved of them from the definitions alone.
+ghost use mathlib.Core.Path.{_≡_};
+ghost use Rattle.worked.specs.Records.{pipelined, Worked-records};
+
+// Tasks cc and ld run from 1 to 3; finish cc p goes to start ld p, and finish ld p to start cc p + 2.
+pub fn pipeline() -> [u8; 21]
+    ensures value { λ r. ⌜ r ≡ pipelined ⌝ }
+    ensures worked { λ _. ⌜ Worked-records ⌝ }
+{
+    [
+        0x10, 0x81, 0x10, 0x10, 0x31, 0x01, 0x03, 0x02, 0x10, 0x00, 0x08, 0x60, 0x00, 0x10, 0x80, 0x02, 0x63, 0x63, 0x02, 0x6C,
+        0x64,
+    ]
+}
