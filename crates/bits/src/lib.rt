@@ -59,7 +59,8 @@ impl<'a> Reader<'a> {
     pub fn place(&self) -> u128
         ensures { λ r. ⌜ r ≡ now (self .entry) .at ⌝ }
     {
-        self.at
+        let next = self.at;
+        next
     }
 
     // The number in the next field, which has `width` bits and never more than 32. A refusal leaves the reader as it was.

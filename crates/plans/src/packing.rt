@@ -123,7 +123,8 @@ pub impl<'a> Source for Packed<'a> as PackedSource {
     ghost means = { λ p. lawful (planOf (shown (p .parts))) (p .keeps) };
 
     fn task_count(&self) -> usize {
-        self.parts.tasks.count
+        let parts = &self.parts;
+        parts.tasks.count
     }
 
     fn word_count(&self, task: usize) -> Option<u32> {
@@ -144,7 +145,8 @@ pub impl<'a> Source for Packed<'a> as PackedSource {
     }
 
     fn link_count(&self) -> usize {
-        self.parts.link_count
+        let parts = &self.parts;
+        parts.link_count
     }
 
     fn ends(&self, link: usize) -> Option<Ends> {
