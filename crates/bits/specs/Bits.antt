@@ -1,5 +1,5 @@
 -- The bits of bytes, the most significant first, and the number that bits spell.
-use Prim.Native.Nat.{ℕ, _/_, _%_}
+use Prim.Native.Nat.{ℕ, zero, suc, _/_, _%_}
 use mathlib.Core.List.{List, [], _∷_, _++_}
 use lib.ListN.{take, drop}
 use Rattle.std.specs.shelf.Digits.{number}
@@ -21,3 +21,8 @@ field bs at width = take width (drop at (bits bs))
 -- the number that bits spell in base two
 abbrev pub spelled : List ℕ → ℕ
 spelled ds = number 2 ds
+
+-- the bits of a number in a field of some width
+unfoldable pub digits : ℕ → ℕ → List ℕ
+digits zero n = []
+digits (suc width) n = digits width (n / 2) ++ (n % 2 ∷ [])

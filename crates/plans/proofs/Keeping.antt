@@ -36,6 +36,7 @@ use Rattle.plans.specs.Decoded.{linksOf, shown}
 use Rattle.plans.proofs.Fields.{onOk-ok}
 use Rattle.plans.specs.Order.{Ordered}
 use Rattle.plans.specs.Plan.{Plan, Link, KeepsLink, Keeps, wordsOf, taskCount, placeOf}
+use Rattle.plans.specs.Orders.{Within}
 use Rattle.plans.specs.Meaning.{taskWords, planLink, planOf, partsOr}
 use Rattle.plans.proofs.Places.{nth-map, nth-within, mapped-some, placeIn-found}
 use Rattle.plans.proofs.Mixed.{tupleAt}
@@ -46,12 +47,16 @@ use Rattle.plans.proofs.Held.{links-long, join-parts, ends-same}
 use Rattle.plans.proofs.Landing.{target-lands}
 use Rattle.plans.proofs.Ordering.{order-is-tested}
 
--- what the check of a record has shown
-pub record Facts (p : Parts) : Type 0 where
+-- what fields in order have shown
+pub record Read-facts (p : Parts) : Type 0 where
   pub few : length (p .tasks) ≤ 32
   pub good : Good (p .tasks)
   pub few-links : length (p .links) ≤ 64
   pub good-links : goodLinks (length (p .tasks)) (p .links) ≡ true
+
+-- and what the check of the whole record has shown
+pub record Facts (p : Parts) : Type 0 where
+  pub read : Read-facts p
   pub apart : firstBelow (repeats (p .links)) (length (p .links)) ≡ None
   pub ordered : firstBelow (unordered (p .tasks) (p .links)) (length (p .links)) ≡ None
 
@@ -107,9 +112,9 @@ module _ (from to : List Param) (rs : List Rule) where
       (λ above. let g = o .after j (omega arith) (nth-within places j (Some (l .0)) at-j) in let h : _≡_ {A = Option (Option ℕ)} (Some (Some (l .0))) (Some None) = sym at-j ∙ g in let z : _≡_ {A = ℕ} 0 1 = cc in omega arith)
       (cases-lt i (o .d))
 
-module _ (p : Parts) (f : Facts p) where
-  private-sound : (t : ℕ) → t < length (p .tasks) → Sound (taskOf (p .tasks) t)
-  private-sound t h = good-at (p .tasks) t noTask (f .good) h
+module _ (p : Parts) (f : Read-facts p) where
+  pub sound : (t : ℕ) → t < length (p .tasks) → Sound (taskOf (p .tasks) t)
+  sound t h = good-at (p .tasks) t noTask (f .good) h
 
   known : (t : ℕ) → t < taskCount (planOf p) → t < length (p .tasks)
   known t h = omega (arith, h, length-map (p .tasks) taskWords)
@@ -124,19 +129,56 @@ module _ (p : Parts) (f : Facts p) where
 
   few-words : (t : ℕ) → length (wordsOf (planOf p) t) ≤ mostWords
   few-words t =
-      ⊎-elim (λ below. omega (arith, ap length (words-in (p .tasks) t below), length-words (taskOf (p .tasks) t .each), private-sound t below .limit))
+      ⊎-elim (λ below. omega (arith, ap length (words-in (p .tasks) t below), length-words (taskOf (p .tasks) t .each), sound t below .limit))
       (λ above. omega (arith, ap length (words-out (p .tasks) t above)))
       (cases-lt t (length (p .tasks)))
 
+  -- a link of the plan is one of the record
+  pub link-is : (l : ℕ) (k : Link) → nth (map (planLink (p .tasks)) (p .links)) l ≡ Some k → (l < length (p .links)) × (planLink (p .tasks) (linkAt (p .links) l) ≡ k)
+  link-is l k e =
+      let h : l < length (p .links) = omega (arith, nth-within (map (planLink (p .tasks)) (p .links)) l k e, length-map (p .links) (planLink (p .tasks))) in
+      let m = nth-map (planLink (p .tasks)) (p .links) l ∙ ap (mapped (planLink (p .tasks))) (nth-getD (p .links) l noLink h) in
+      let same : Some (planLink (p .tasks) (linkAt (p .links) l)) ≡ Some k = sym m ∙ e in
+      (h, some-same (planLink (p .tasks) (linkAt (p .links) l)) k same)
+      where
+        some-same : (x y : Link) → Some x ≡ Some y → x ≡ y
+        some-same x y e = cc
+
+  narrow : (t i w : ℕ) → nth (wordsOf (planOf p) t) i ≡ Some w → w < 2 ^ 32
+  narrow t i w e =
+      let b = word-known t i w e in
+      let s = sound t b in
+      word-narrow (taskOf (p .tasks) t .each) i w (s .four) (s .bytes) (s .some) (in-words t i w b e)
+
+  pub link-in : (j : ℕ) → j < length (p .links) → nth (planOf p .links) j ≡ Some (planLink (p .tasks) (linkAt (p .links) j))
+  link-in j h = nth-map (planLink (p .tasks)) (p .links) j ∙ ap (mapped (planLink (p .tasks))) (nth-getD (p .links) j noLink h)
+
+  replies : (l : ℕ) → l < length (p .links) → length (planLink (p .tasks) (linkAt (p .links) l) .targets) ≡ length (wordsOf (planOf p) (linkAt (p .links) l .ends .from))
+  replies l h =
+      let k = linkAt (p .links) l in
+      let e = join-parts (length (p .tasks)) (k .ends) (good-link-at (length (p .tasks)) (p .links) l noLink (f .good-links) h .joins) in
+      let from = taskOf (p .tasks) (k .ends .from) .each in
+      length-map (words from) (targetAt from (taskOf (p .tasks) (k .ends .to) .each) (k .rules)) ∙ ap length (sym (words-in (p .tasks) (k .ends .from) (e .0)))
+
+  -- the plan keeps the limits of plans
+  pub within : Within (planOf p)
+  within =
+      record {
+        few-tasks = omega (arith, f .few, length-map (p .tasks) taskWords);
+        few-words = few-words;
+        narrow = narrow;
+        few-links = omega (arith, f .few-links, length-map (p .links) (planLink (p .tasks)));
+        replies = λ l k e. (let i = link-is l k e in subst (λ x. length (x .targets) ≡ length (wordsOf (planOf p) (x .ends .from))) (i .1) (replies l (i .0))) }
+
+module _ (p : Parts) (f : Facts p) where
   -- the rules of a link
   link-keeps : (j : ℕ) → j < length (p .links) → KeepsLink (planOf p) (planLink (p .tasks) (linkAt (p .links) j))
   link-keeps j h =
       let l = linkAt (p .links) j in
-      let s = good-link-at (length (p .tasks)) (p .links) j noLink (f .good-links) h in
+      let s = good-link-at (length (p .tasks)) (p .links) j noLink (f .read .good-links) h in
       let e = join-parts (length (p .tasks)) (l .ends) (s .joins) in
       let from = taskOf (p .tasks) (l .ends .from) .each in
       let to = taskOf (p .tasks) (l .ends .to) .each in
-      let here = words-in (p .tasks) (l .ends .from) (e .0) in
       let there = words-in (p .tasks) (l .ends .to) (e .1) in
       let up : rising 0 (placesOf (p .tasks) l) ≡ true = kept (rising 0 (placesOf (p .tasks) l)) (none-is (unordered (p .tasks) (p .links)) (length (p .links)) (f .ordered) j h) in
       let o : Ordered (placesOf (p .tasks) l) = order-is-tested (placesOf (p .tasks) l) .0 up in
@@ -144,7 +186,7 @@ module _ (p : Parts) (f : Facts p) where
         from-known = omega (arith, e .0, length-map (p .tasks) taskWords);
         to-known = omega (arith, e .1, length-map (p .tasks) taskWords);
         apart = λ same. false≢true (sym (ap not (eq-eqb (l .ends .from) (l .ends .to) same)) ∙ e .2);
-        replies = length-map (words from) (targetAt from to (l .rules)) ∙ ap length (sym here);
+        replies = replies p (f .read) j h;
         lands = λ i w r. (let q = landed from to (l .rules) i w r in ap isSome (ap (λ ws. placeIn ws w) there ∙ q .1));
         first-ones = λ i k w le r q. none-then-some from to (l .rules) o i k w le r q;
         in-order = λ i k v w a b le r q m n.
@@ -162,30 +204,22 @@ module _ (p : Parts) (f : Facts p) where
       let is = first-some (λ i. sameEnds (linkAt (p .links) i .ends) (linkAt (p .links) m .ends)) m l lt test in
       false≢true (sym no-repeat ∙ is)
 
-  -- a link of the plan is one of the record
-  link-is : (l : ℕ) (k : Link) → nth (map (planLink (p .tasks)) (p .links)) l ≡ Some k → (l < length (p .links)) × (planLink (p .tasks) (linkAt (p .links) l) ≡ k)
-  link-is l k e =
-      let h : l < length (p .links) = omega (arith, nth-within (map (planLink (p .tasks)) (p .links)) l k e, length-map (p .links) (planLink (p .tasks))) in
-      let m = nth-map (planLink (p .tasks)) (p .links) l ∙ ap (mapped (planLink (p .tasks))) (nth-getD (p .links) l noLink h) in
-      let same : Some (planLink (p .tasks) (linkAt (p .links) l)) ≡ Some k = sym m ∙ e in
-      (h, some-same (planLink (p .tasks) (linkAt (p .links) l)) k same)
-      where
-        some-same : (x y : Link) → Some x ≡ Some y → x ≡ y
-        some-same x y e = cc
-
   pub keeps : Keeps (planOf p)
   keeps =
       record {
-        few-tasks = omega (arith, f .few, length-map (p .tasks) taskWords);
-        some-words = λ t h. (let b = known t h in omega (arith, ap length (words-in (p .tasks) t b), length-words (taskOf (p .tasks) t .each), private-sound t b .some));
-        few-words = few-words;
-        narrow = λ t i w e. (let b = word-known t i w e in let s = private-sound t b in word-narrow (taskOf (p .tasks) t .each) i w (s .four) (s .bytes) (s .some) (in-words t i w b e));
-        differ = λ t i j w d e. (let b = word-known t i w d in let s = private-sound t b in words-differ (taskOf (p .tasks) t .each) (s .four) (s .bytes) i j w (in-words t i w b d) (in-words t j w b e));
-        few-links = omega (arith, f .few-links, length-map (p .links) (planLink (p .tasks)));
-        links-keep = λ l k e. (let i = link-is l k e in subst (KeepsLink (planOf p)) (i .1) (link-keeps l (i .0)));
+        few-tasks = within p (f .read) .few-tasks;
+        some-words = λ t h. (let b = known p (f .read) t h in omega (arith, ap length (words-in (p .tasks) t b), length-words (taskOf (p .tasks) t .each), sound p (f .read) t b .some));
+        few-words = within p (f .read) .few-words;
+        narrow = within p (f .read) .narrow;
+        differ = λ t i j w d e.
+            (let b = word-known p (f .read) t i w d in
+            let s = sound p (f .read) t b in
+            words-differ (taskOf (p .tasks) t .each) (s .four) (s .bytes) i j w (in-words p (f .read) t i w b d) (in-words p (f .read) t j w b e));
+        few-links = within p (f .read) .few-links;
+        links-keep = λ l k e. (let i = link-is p (f .read) l k e in subst (KeepsLink (planOf p)) (i .1) (link-keeps l (i .0)));
         ends-differ = λ l m j k e g same.
-            (let a = link-is l j e in
-            let b = link-is m k g in
+            (let a = link-is p (f .read) l j e in
+            let b = link-is p (f .read) m k g in
             let ends : linkAt (p .links) l .ends ≡ linkAt (p .links) m .ends = ap (λ x. x .ends) (a .1) ∙ same ∙ sym (ap (λ x. x .ends) (b .1)) in
             ⊎-elim (λ below. absurd (not-later l m below (b .0) ends))
             (λ above. ⊎-elim (λ over. absurd (not-later m l over (a .0) (sym ends))) (λ under. omega arith) (cases-lt m l))
@@ -222,12 +256,13 @@ record-keeps bs r is = by (checked bs) refl
           let few = t .few in
           let long = length-take-le (t .count) (t .each) (omega arith) in
           keeps (shown r) (record {
-            few = omega (arith, long);
-            good = t .good;
-            few-links = omega (arith, links-long r, r .few);
-            good-links = subst (λ n. goodLinks n (linksOf r) ≡ true) (sym long) (r .good);
+            read = record {
+              few = omega (arith, long);
+              good = t .good;
+              few-links = omega (arith, links-long r, r .few);
+              good-links = subst (λ n. goodLinks n (linksOf r) ≡ true) (sym long) (r .good) };
             apart = ok .1;
             ordered = ok .2 })
       by (Err f) e =
           subst (λ p. Keeps (planOf p)) (ap partsOr (sym e) ∙ sym is)
-          (keeps (record { tasks = []; links = []; names = [] }) (record { few = omega arith; good = refl; few-links = omega arith; good-links = refl; apart = refl; ordered = refl }))
+          (keeps (record { tasks = []; links = []; names = [] }) (record { read = record { few = omega arith; good = refl; few-links = omega arith; good-links = refl }; apart = refl; ordered = refl }))

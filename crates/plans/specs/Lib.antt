@@ -13,3 +13,8 @@ pub mod Plan
 pub mod Meaning
 pub mod Names
 pub mod Laws
+pub mod Events
+pub mod Ppo
+pub mod Orders
+pub mod Description
+pub mod Terms

@@ -2,6 +2,7 @@
 mod checks;
 mod decode;
 mod ends;
+mod event;
 mod fault;
 mod link;
 mod links;
@@ -27,6 +28,9 @@ pub use ends::EndsPartialEq;
 pub use ends::Side;
 pub use ends::SideDebug;
 pub use ends::SidePartialEq;
+pub use event::Event;
+pub use event::EventDebug;
+pub use event::EventPartialEq;
 pub use fault::Fault;
 pub use fault::FaultDebug;
 pub use fault::FaultFromBits;

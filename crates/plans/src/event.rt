@@ -1,0 +1,13 @@
+// Events of a plan.
+use crate::ends::Side;
+use crate::ends::SideDebug as _;
+use crate::ends::SidePartialEq as _;
+use crate::word::Word;
+
+// The start or the finish of a task at one of its words.
+#[derive(Clone, Copy, Debug, PartialEq)]
+pub struct Event {
+    pub task: usize,
+    pub side: Side,
+    pub word: Word,
+}
