@@ -32,7 +32,8 @@ use Rattle.plans.proofs.Parted.{Parted, Apart}
 use Rattle.plans.proofs.Writing.{read-writes}
 use Rattle.plans.proofs.Reread.{written-reads}
 use Rattle.plans.proofs.Unique.{written-once}
-use Rattle.plans.proofs.Conditions.{rules-are-conditions}
+use Rattle.plans.proofs.Restricting as restricting
+use Rattle.plans.proofs.Conditions.{rules-needed}
 use Rattle.plans.proofs.Carried.{conditions-carry, conditions-back, plan-means}
 
 no-turn : (l t : ℕ) (s : Side) → link l ≡ turn t s → ⊥
@@ -70,7 +71,7 @@ describes bs q h =
     let f = checked-ok bs q h in
     let w = read-writes bs q (f .0) in
     let k = keeps q (record { read = read-facts bs q (f .0); apart = f .1; ordered = f .2 }) in
-    let c = rules-are-conditions .enough (planOf q) k in
+    let c = restricting.describes (planOf q) k in
     let b = conditions-back (w .0) q (w .2) (w .4) (c .ppo) (c .restricted) in
     record { description = w .0; writes = w .1; limits = w .2; ppo = b .0; restricted = b .1 }
 
@@ -83,7 +84,7 @@ accepts bs r =
     let q = w .0 in
     let f = read-facts bs q (w .1) in
     let c = conditions-carry d q (r .limits) (w .2) (r .ppo) (r .restricted) in
-    let k = rules-are-conditions .needed (planOf q) (record { within = within q f; ppo = c .0; restricted = c .1 }) in
+    let k = rules-needed (planOf q) (record { within = within q f; ppo = c .0; restricted = c .1 }) in
     (q, ap (λ m. onOk m late) (w .1) ∙ passes q f k, w .2)
 
 pub terms : (bs : List ℕ) → Terms bs (planOf (partsOr (checked bs)))

@@ -14,7 +14,7 @@ use Rattle.plans.specs.declared.ends.Side.{Side}
 use Rattle.plans.specs.declared.ends.Side.the-variants.{Start, Finish}
 use Rattle.plans.specs.Plan.{Plan, Link, Keeps, KeepsLink, taskCount, linkCount, wordsOf, wordAt, placeOf}
 use Rattle.plans.specs.Ppo.{Next, Upto}
-use Rattle.plans.specs.Orders.{turn, link, other, fromType, toType, linkOf, orderOf, Describes, Rules-are-conditions}
+use Rattle.plans.specs.Orders.{turn, link, other, fromType, toType, linkOf, orderOf, Describes}
 use Rattle.plans.proofs.Places.{nth-within, nth-placeIn, placeIn-found}
 use Rattle.plans.proofs.Walking.{some-eq, none-some, single-eq, word-known, word-at, link-at, link-is, next-from, upto, Alone, Differ, walked}
 use Rattle.plans.proofs.Restricting.{valuation-is, describes}
@@ -128,8 +128,8 @@ module _ (p : Plan) (d : Describes p) where
             let same = differ t a c v (nth-placeIn (wordsOf p t) v a g) (at ∙ ap Some (sym (one ∙ single-eq z y isy))) in
             omega arith) }
 
-  keeps : Keeps p
-  keeps = record {
+  pub rules-needed : Keeps p
+  rules-needed = record {
       few-tasks = d .within .few-tasks;
       some-words = λ t h. (let (w, _, at) = first-is t h in nth-within (wordsOf p t) 0 w at);
       few-words = d .within .few-words;
@@ -142,6 +142,3 @@ module _ (p : Plan) (d : Describes p) where
           let (g, isk) = link-is p m k f in
           let ends = ap (λ x. x .ends) isj ∙ same ∙ sym (ap (λ x. x .ends) isk) in
           link-eq l m (d .ppo .once (link l) (link m) h g (ap fromType ends) (ap toType ends))) }
-
-pub rules-are-conditions : Rules-are-conditions
-rules-are-conditions = record { enough = describes; needed = keeps }

@@ -12,7 +12,7 @@ use Rattle.plans.specs.Lists.{andThen}
 use Rattle.plans.specs.Plan.{Plan, Keeps, taskCount, linkCount, wordsOf, wordAt, placeOf, nextWord, gives}
 use Rattle.plans.specs.Events.{Of-plan, between, Rests, own-start, one-earlier, by-link}
 use Rattle.plans.specs.Ppo.{Precedes}
-use Rattle.plans.specs.Orders.{Edge, turn, link, fromType, toType, Has, leaves, enters, linkOf, Given, orderOf, typeOf, Rests-are-predecessors}
+use Rattle.plans.specs.Orders.{Edge, turn, link, fromType, toType, Has, leaves, enters, linkOf, Given, orderOf, typeOf}
 use Rattle.plans.proofs.Places.{nth-within, nth-placeIn, placeIn-found, mapped-some}
 use Rattle.plans.proofs.Walking.{some-eq, none-some, single-eq, word-known, link-at}
 
@@ -30,7 +30,7 @@ module _ (p : Plan) (k : Keeps p) where
       let (j, is) = placeIn-found (wordsOf p t) w i e in
       is ∙ ap Some (k .differ t j i w (nth-placeIn (wordsOf p t) w j is) e)
 
-  precede : (e d : Event) → Of-plan p e → Rests p e d → Precedes (orderOf p) (typeOf d) (d .word ∷ []) (typeOf e) (e .word ∷ [])
+  pub precede : (e d : Event) → Of-plan p e → Rests p e d → Precedes (orderOf p) (typeOf d) (d .word ∷ []) (typeOf e) (e .word ∷ [])
   precede e d (i, of) (own-start es ds same word) =
       let there : wordAt p (d .task) i ≡ Some (d .word) = subst (λ t. wordAt p t i ≡ Some (d .word)) same (nth-placeIn (wordsOf p (e .task)) (e .word) i of ∙ ap Some word) in
       (record {
@@ -72,8 +72,5 @@ module _ (p : Plan) (k : Keeps p) where
         (ap (mapped (λ x. x .ends)) at ∙ ap Some (λ j. record { from = f j .task; «from_side» = f j .side; to = g j .task; «to_side» = g j .side }))
         (ap (λ o. andThen o (λ x. gives p x (d .word))) at ∙ ap (λ o. andThen o (λ i. flattened (nth (linkOf p l .targets) i))) place ∙ ap flattened there ∙ ap Some (sym isw))
 
-  rest : (e d : Event) → Precedes (orderOf p) (typeOf d) (d .word ∷ []) (typeOf e) (e .word ∷ []) → Rests p e d
+  pub rest : (e d : Event) → Precedes (orderOf p) (typeOf d) (d .word ∷ []) (typeOf e) (e .word ∷ []) → Rests p e d
   rest e d (j, (v, w, isv, isw, given)) = rest-by e d (j .edge) v w (j .has) (j .from) (j .to) (single-eq (d .word) v isv) (single-eq (e .word) w isw) given
-
-pub rests-are-predecessors : Rests-are-predecessors
-rests-are-predecessors = record { precede = precede; rest = rest }

@@ -30,7 +30,6 @@ fromType e = record { task = e .from; side = e .«from_side» }
 abbrev pub toType : Ends → EventType
 toType e = record { task = e .to; side = e .«to_side» }
 
--- a link by its number, of plans or of records
 abbrev pub noEnds : Ends
 noEnds = record { from = 0; «from_side» = Start; to = 0; «to_side» = Start }
 
@@ -100,15 +99,14 @@ pub record Describes (p : Plan) : Type 0 where
   pub ppo : Ppo (orderOf p)
   pub restricted : Restricted (orderOf p)
 
--- the rules of plans are these conditions
-pub record Rules-are-conditions : Type 0 where
-  pub enough : (p : Plan) → Keeps p → Describes p
-  pub needed : (p : Plan) → Describes p → Keeps p
-
 abbrev pub typeOf : Event → EventType
 typeOf e = record { task = e .task; side = e .side }
 
--- what an event of the plan rests on are its immediate predecessors
-pub record Rests-are-predecessors : Type 0 where
+-- Laws of plans.
+pub record Laws-of-plans : Type 0 where
+  -- the rules of plans are the conditions of a restricted parametrized partial order
+  pub enough : (p : Plan) → Keeps p → Describes p
+  pub needed : (p : Plan) → Describes p → Keeps p
+  -- what an event of the plan rests on are its immediate predecessors
   pub precede : (p : Plan) → Keeps p → (e d : Event) → Of-plan p e → Rests p e d → Precedes (orderOf p) (typeOf d) (d .word ∷ []) (typeOf e) (e .word ∷ [])
   pub rest : (p : Plan) → Keeps p → (e d : Event) → Precedes (orderOf p) (typeOf d) (d .word ∷ []) (typeOf e) (e .word ∷ []) → Rests p e d

@@ -10,6 +10,10 @@ ghost use Rattle.plans.specs.Layout.{taskOf};
 ghost use Rattle.plans.specs.Record.{linkAt, firstBelow, repeats, unordered, checked};
 ghost use Rattle.plans.specs.Repeat.{Repeat};
 ghost use Rattle.plans.specs.Laws.{Laws-of-records};
+ghost use Rattle.plans.specs.Orders.{Laws-of-plans};
+ghost use Rattle.plans.specs.Terms.{Record-of};
+ghost use Rattle.std.specs.Orderings.{Decides};
+ghost use Rattle.std.specs.Results.{isOk};
 ghost use Rattle.plans.specs.Decoded.{Gives, Joins, tasksOf, linksOf, endsOf};
 use crate::decode::read_record;
 use crate::ends::Ends;
@@ -106,10 +110,13 @@ pub(crate) fn decode(bytes: &[u8]) -> Result<Record, Fault>
     Ok(record)
 }
 
-// Whether bytes are a packed record, or the one fault that counts.
+// Whether bytes are a packed record, or the one fault that counts. They are accepted exactly if they describe a
+// restricted parametrized partial order.
 pub fn check(bytes: &[u8]) -> Result<(), Fault>
+    ensures accepted { λ r. ⌜ Decides (isOk r) (Record-of (now (bytes .entry))) ⌝ }
     ensures value { λ r. ⌜ r ≡ onOk (checked (now (bytes .entry))) (λ _. Ok tt) ⌝ }
-    ensures laws { λ _. ⌜ Laws-of-records ⌝ }
+    ensures records { λ _. ⌜ Laws-of-records ⌝ }
+    ensures plans { λ _. ⌜ Laws-of-plans ⌝ }
 {
     decode(bytes)?;
     Ok(())

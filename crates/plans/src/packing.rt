@@ -9,6 +9,7 @@ ghost use mathlib.Core.Path.{_≡_};
 ghost use Rattle.plans.specs.Plan.{lawful};
 ghost use Rattle.plans.specs.Meaning.{planOf, partsOr};
 ghost use Rattle.plans.specs.Record.{checked};
+ghost use Rattle.plans.specs.Terms.{Terms};
 ghost use Rattle.plans.specs.Decoded.{shown, tasksOf, Finds};
 use crate::checks::decode;
 use crate::ends::Ends;
@@ -67,6 +68,7 @@ impl<'a> Packed<'a> {
         ensures bytes { λ r. ⌜ now (r .bytes) ≡ now (bytes .entry) ⌝ }
         ensures place { λ r. ⌜ ptr (r .bytes) ≡ ptr (bytes .entry) ⌝ }
         ensures parts { λ r. ⌜ shown (r .parts) ≡ partsOr (checked (now (bytes .entry))) ⌝ }
+        ensures terms { λ r. ⌜ Terms (now (bytes .entry)) (planOf (shown (r .parts))) ⌝ }
     {
         let parts = parts_of(bytes);
         Packed { bytes, parts }
