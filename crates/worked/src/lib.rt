@@ -1,5 +1,6 @@
-// Worked records, and what is proved of them from the definitions alone.
+// Worked records and plans, and what is proved of them from the definitions alone.
 ghost use mathlib.Core.Path.{_≡_};
+ghost use Rattle.worked.specs.Orders.{circled, Worked-orders};
 ghost use Rattle.worked.specs.Records.{pipelined, Worked-records};
 
 // Tasks cc and ld run from 1 to 3; finish cc p goes to start ld p, and finish ld p to start cc p + 2.
@@ -11,4 +12,12 @@ pub fn pipeline() -> [u8; 21]
         0x10, 0x81, 0x10, 0x10, 0x31, 0x01, 0x03, 0x02, 0x10, 0x00, 0x08, 0x60, 0x00, 0x10, 0x80, 0x02, 0x63, 0x63, 0x02, 0x6C,
         0x64,
     ]
+}
+
+// Tasks a and b have no parameters; finish a goes to start b, and finish b to start a.
+pub fn circle() -> [u8; 10]
+    ensures value { λ r. ⌜ r ≡ circled ⌝ }
+    ensures worked { λ _. ⌜ Worked-orders ⌝ }
+{
+    [0x10, 0x81, 0x00, 0x08, 0x41, 0x80, 0x01, 0x61, 0x01, 0x62]
 }
