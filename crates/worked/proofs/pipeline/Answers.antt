@@ -1,6 +1,7 @@
 use mathlib.Core.Path.{refl}
-use Rattle.worked.proofs.Worked.{worked-records}
+use Rattle.worked.proofs.Circling.{worked-orders}
+use Rattle.worked.proofs.Computed.{worked-records}
 use Rattle.worked.proofs.pipeline.Needs as need
 
 pub returns : need.returns
-returns c = record { value = refl; worked = worked-records }
+returns c = record { value = refl; worked = record { records = worked-records; orders = worked-orders } }
