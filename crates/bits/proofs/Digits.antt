@@ -47,6 +47,7 @@ digits-zero (suc width) =
 pub digits-once : (width m n : ℕ) (r s : List ℕ) → m < 2 ^ width → n < 2 ^ width → digits width m ++ r ≡ digits width n ++ s → (m ≡ n) × (r ≡ s)
 digits-once width m n r s h k e =
     let same : digits width m ≡ digits width n =
-        sym (take-at (digits width m) r width (length-digits width m)) ∙ ap (take width) e ∙ take-at (digits width n) s width (length-digits width n) in
-    (sym (spelled-digits width m h) ∙ ap (number 2) same ∙ spelled-digits width n k,
-     sym (drop-at (digits width m) r width (length-digits width m)) ∙ ap (drop width) e ∙ drop-at (digits width n) s width (length-digits width n))
+    sym (take-at (digits width m) r width (length-digits width m)) ∙ ap (take width) e ∙ take-at (digits width n) s width (length-digits width n) in (
+      sym (spelled-digits width m h) ∙ ap (number 2) same ∙ spelled-digits width n k,
+      sym (drop-at (digits width m) r width (length-digits width m)) ∙ ap (drop width) e ∙ drop-at (digits width n) s width (length-digits width n),
+    )

@@ -12,7 +12,11 @@ pub impl fmt::Display for Range as RangeDisplay {
     fn fmt<W: fmt::Write>(&self, f: &mut fmt::Formatter<W>) -> fmt::Result {
         let low = self.0.low;
         let high = self.0.high;
-        if self.0.down { write!(f, "{high} down to {low}") } else { write!(f, "{low} to {high}") }
+        if self.0.down {
+            write!(f, "{high} down to {low}")
+        } else {
+            write!(f, "{low} to {high}")
+        }
     }
 }
 
@@ -45,7 +49,11 @@ pub impl fmt::Display for Value as ValueDisplay {
     fn fmt<W: fmt::Write>(&self, f: &mut fmt::Formatter<W>) -> fmt::Result {
         let sum = Sum(self.0);
         let divisor = self.0.divisor;
-        if divisor == 1 { write!(f, "{sum}") } else { write!(f, "({sum})/{divisor}") }
+        if divisor == 1 {
+            write!(f, "{sum}")
+        } else {
+            write!(f, "({sum})/{divisor}")
+        }
     }
 }
 

@@ -43,7 +43,8 @@ sound-of p h =
       four = eqb-true (length (p .each)) 4 (b .0);
       bytes = c .0;
       some = ltb-true 0 (count (p .each)) (d .0);
-      limit = leb-true (count (p .each)) mostWords (d .1) }
+      limit = leb-true (count (p .each)) mostWords (d .1);
+    }
 
 good-from : (p : Params) → Sound p → goodTask p ≡ true
 good-from p s =
@@ -70,7 +71,8 @@ task-ok bs at x h =
       four = length-append qs (replicate k noParam) ∙ omega (arith, length-replicate k noParam, all .0);
       bytes = bytes-filled k qs (all .1);
       some = omega (arith, count-filled k qs, count-some qs (all .1));
-      limit = leb-true (count (filled qs)) mostWords (unless-ok (leb (count (filled qs)) mostWords) kind.Words at (b .0 .1) (c .0) (c .1)) }))
+      limit = leb-true (count (filled qs)) mostWords (unless-ok (leb (count (filled qs)) mostWords) kind.Words at (b .0 .1) (c .0) (c .1));
+    }))
 
 good-all : (ps : List Params) → All (λ p. goodTask p ≡ true) ps → Good ps
 good-all [] all = refl

@@ -93,8 +93,9 @@ terms bs =
       accepted = (λ ok. (let q = ok-of (checked bs) ok in describes bs (q .0) (q .1)), λ r. ap isOk (accepts bs r .1));
       unique = λ d e w x limd lime. written-once d e (sym w ∙ x) limd lime;
       means = λ r. (let a = accepts bs r in subst (λ m. Means (planOf (partsOr m)) (r .description)) (sym (a .1)) (plan-means (r .description) (a .0) (r .limits) (a .2)));
-      empty = λ none. by (checked bs) refl none }
-    where
-      by : (m : Result Parts Fault) → checked bs ≡ m → (Record-of bs → ⊥) → planOf (partsOr m) ≡ record { tasks = []; links = [] }
-      by (Ok q) e none = absurd (none (describes bs q e))
-      by (Err f) e none = refl
+      empty = λ none. by (checked bs) refl none;
+    }
+  where
+    by : (m : Result Parts Fault) → checked bs ≡ m → (Record-of bs → ⊥) → planOf (partsOr m) ≡ record { tasks = []; links = [] }
+    by (Ok q) e none = absurd (none (describes bs q e))
+    by (Err f) e none = refl

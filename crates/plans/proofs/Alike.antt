@@ -48,7 +48,8 @@ flip a D G c =
       typed = c .code-typed;
       code-typed = c .typed;
       gives = λ e x y v w. c .given e v w x y;
-      given = λ e x y v w. c .gives e v w x y }
+      given = λ e x y v w. c .gives e v w x y;
+    }
 
 -- each domain has a value where there is a valuation
 chosen : (Ds : List (ℕ → Type 0)) → Inhabited Ds → (v : List ℕ) × Valued Ds v
@@ -67,9 +68,10 @@ module _ (a : Structure) (D : Domains) (G : Relation a) (c : Coding a D G) where
 
   abbrev pub precedes : (x y : EventType) (v w v′ w′ : List ℕ) → c .Code (x .task) v v′ → c .Code (y .task) w w′ → Precedes a x v y w → Precedes (recoded a D G) x v′ y w′
   precedes x y v w v′ w′ cv cw p =
-      let j = p .0 in
-      (joins x y j,
-       c .gives (j .edge) v w v′ w′ (j .has) (subst (λ z. c .Code (z .task) v v′) (sym (j .from)) cv) (subst (λ z. c .Code (z .task) w w′) (sym (j .to)) cw) (p .1))
+      let j = p .0 in (
+        joins x y j,
+        c .gives (j .edge) v w v′ w′ (j .has) (subst (λ z. c .Code (z .task) v v′) (sym (j .from)) cv) (subst (λ z. c .Code (z .task) w w′) (sym (j .to)) cw) (p .1),
+      )
 
   next-typed : (t : ℕ) (v w : List ℕ) → Next a t v w → Valuation a t v × Valuation a t w
   next-typed t v w n =
@@ -112,10 +114,13 @@ module _ (a : Structure) (D : Domains) (G : Relation a) (c : Coding a D G) (p : 
             let same = p .function e (c .decode s v) (c .decode t w) (c .decode t u) h (c .given e (c .decode s v) (c .decode t w) v w h cv cw f) (c .given e (c .decode s v) (c .decode t u) v u h cv cu g) in
             c .one-code t (c .decode t u) w u (k .1) (subst (λ x. c .Code t x w) same cw) cu);
         begins = λ t h. (
-            let j = p .begins t h in
-            (joins a D G c (start t) (end t) (j .0), λ v val. (
-                let cv = c .decoded t v h val in
-                precedes a D G c (start t) (end t) (c .decode t v) (c .decode t v) v v cv cv (j .0, j .1 (c .decode t v) (c .valued t (c .decode t v) v h cv)) .1))) }
+            let j = p .begins t h in (
+              joins a D G c (start t) (end t) (j .0),
+              λ v val. (
+                  let cv = c .decoded t v h val in
+                  precedes a D G c (start t) (end t) (c .decode t v) (c .decode t v) v v cv cv (j .0, j .1 (c .decode t v) (c .valued t (c .decode t v) v h cv)) .1),
+            ));
+      }
 
   next-back : (t : ℕ) (v w v′ w′ : List ℕ) → c .Code t v v′ → c .Code t w w′ → Next other t v′ w′ → Next a t v w
   next-back t v w v′ w′ cv cw n = precedes other (a .domains) (a .Gives) back (end t) (start t) v′ w′ v w cv cw n
@@ -141,7 +146,7 @@ module _ (a : Structure) (D : Domains) (G : Relation a) (c : Coding a D G) (p : 
         let u = c .decode t w in
         let cw = c .decoded t w h val in
         let same = r .alone t u h (c .valued t u w h cw) (λ v n.
-            none (c .code t v) (precedes a D G c (end t) (start t) v u (c .code t v) w (c .coded t v h (next-typed a D G c t v u n .0)) cw n)) in
+        none (c .code t v) (precedes a D G c (end t) (start t) v u (c .code t v) w (c .coded t v h (next-typed a D G c t v u n .0)) cw n)) in
         c .one-code t (r .initial t) w (first t) h (subst (λ x. c .Code t x w) same cw) (first-code t h)
 
     injective : (t : ℕ) (v w u : List ℕ) → t < a .tasks → Next other t v u → Next other t w u → v ≡ w
@@ -189,7 +194,8 @@ module _ (a : Structure) (D : Domains) (G : Relation a) (c : Coding a D G) (p : 
           alone = alone;
           injective = injective;
           reachable = reachable;
-          monotonic = monotonic }
+          monotonic = monotonic;
+        }
 
 -- two structures that differ in a coding alone
 pub record Alike (a b : Structure) : Type 1 where

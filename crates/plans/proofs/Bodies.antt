@@ -24,9 +24,9 @@ body-read bs bs1 bs2 bs3 n at a b c d ts ls ns u s1 s2 s3 rt rl′ rp′ rn′ =
     let rp = rw s2 at rp′ in
     let rn = rw s3 at rn′ in
     next-ok (times (n .tasks) (task bs)) (λ ts. next (times (n .links) (link bs ts)) (λ ls.
-        next (padding bs) (λ _. next (times (n .tasks) (name bs)) (λ ns. give (record { tasks = ts; links = ls; names = ns }))))) at ts a rt
+    next (padding bs) (λ _. next (times (n .tasks) (name bs)) (λ ns. give (record { tasks = ts; links = ls; names = ns }))))) at ts a rt
     ∙ next-ok (times (n .links) (link bs ts)) (λ ls.
-        next (padding bs) (λ _. next (times (n .tasks) (name bs)) (λ ns. give (record { tasks = ts; links = ls; names = ns })))) a ls b rl
+    next (padding bs) (λ _. next (times (n .tasks) (name bs)) (λ ns. give (record { tasks = ts; links = ls; names = ns })))) a ls b rl
     ∙ next-ok (padding bs) (λ _. next (times (n .tasks) (name bs)) (λ ns. give (record { tasks = ts; links = ls; names = ns }))) b u c rp
     ∙ next-ok (times (n .tasks) (name bs)) (λ ns. give (record { tasks = ts; links = ls; names = ns })) c ns d rn
 

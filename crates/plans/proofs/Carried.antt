@@ -57,9 +57,10 @@ module _ (d : Description) (q : Parts) (lim : Limits d) (part : Parted q d) wher
   code-typed e x y h g =
       let r = yielded d q lim part e (g .0) (g .1) h (g .4) in
       let val = typed d e (r .0) (r .1) h (r .2) in
-      let k = known d lim e h in
-      (code-valued (described d .from e .task) (r .0) x (k .0) (val .0, g .2 ∙ ap (λ m. m ∷ []) (sym (r .3))),
-       code-valued (described d .to e .task) (r .1) y (k .1) (val .1, g .3 ∙ ap (λ m. m ∷ []) (sym (r .4))))
+      let k = known d lim e h in (
+        code-valued (described d .from e .task) (r .0) x (k .0) (val .0, g .2 ∙ ap (λ m. m ∷ []) (sym (r .3))),
+        code-valued (described d .to e .task) (r .1) y (k .1) (val .1, g .3 ∙ ap (λ m. m ∷ []) (sym (r .4))),
+      )
 
   given : (e : Edge) (v w x y : List ℕ) → described d .Has e → Code (described d .from e .task) v x → Code (described d .to e .task) w y
       → Replied e x y → Yields d e v w
@@ -86,7 +87,8 @@ module _ (d : Description) (q : Parts) (lim : Limits d) (part : Parted q d) wher
         typed = typed d;
         code-typed = code-typed;
         gives = λ e v w x y h cv cw g. (wordFor v, wordFor w, cv .1, cw .1, yields d q lim part e v w h g);
-        given = given }
+        given = given;
+      }
 
   abbrev tasks-long : length (d .tasks) ≡ length (plan .tasks)
   tasks-long = sym (ap length (part .tasks) ∙ length-map (d .tasks) shaped) ∙ sym (length-map (q .tasks) taskWords)
@@ -103,7 +105,8 @@ module _ (d : Description) (q : Parts) (lim : Limits d) (part : Parted q d) wher
         Has = Has (tasks-long i) (plan-long i);
         from = leaves (λ l. ends-at d q lim part l i);
         to = enters (λ l. ends-at d q lim part l i);
-        Gives = Replied }
+        Gives = Replied;
+      }
 
   pub described-alike : Alike (described d) (orderOf (planOf q))
   described-alike = record { domains = Words; Gives = Replied; same = same; coding = coding }
@@ -130,4 +133,5 @@ module _ (d : Description) (q : Parts) (lim : Limits d) (part : Parted q d) wher
         preceded = λ x y v w a b g.
             precedes (recoded (described d) Words Replied) (described d .domains) (Yields d)
             (flip (described d) Words Replied coding) x y (wordFor v ∷ []) (wordFor w ∷ []) v w (a, refl) (b, refl)
-            (subst (λ o. Precedes o x (wordFor v ∷ []) y (wordFor w ∷ [])) (sym same) g) }
+            (subst (λ o. Precedes o x (wordFor v ∷ []) y (wordFor w ∷ [])) (sym same) g);
+      }

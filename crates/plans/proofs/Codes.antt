@@ -50,13 +50,15 @@ twos-high n h k =
 
 pub twos-range : (n : ℕ) → n < 512 → (negsuc 255 ≤ℤ twos 9 n) × (twos 9 n ≤ℤ pos 255)
 twos-range n h = elim (cases-lt n 256) [
-    inl low ↦ rw (twos-low n low) (omega (arith, ints), omega (arith, ints))
-  | inr high ↦ rw (twos-high n high h) (omega (arith, ints), omega (arith, ints)) ]
+  | inl low ↦ rw (twos-low n low) (omega (arith, ints), omega (arith, ints))
+  | inr high ↦ rw (twos-high n high h) (omega (arith, ints), omega (arith, ints))
+]
 
 pub complement-twos : (n : ℕ) → n < 512 → complement 9 (twos 9 n) ≡ n
 complement-twos n h = elim (cases-lt n 256) [
-    inl low ↦ ap (complement 9) (twos-low n low)
-  | inr high ↦ ap (complement 9) (twos-high n high h) ∙ omega arith ]
+  | inl low ↦ ap (complement 9) (twos-low n low)
+  | inr high ↦ ap (complement 9) (twos-high n high h) ∙ omega arith
+]
 
 pub twos-complement : (z : ℤ) → negsuc 255 ≤ℤ z → z ≤ℤ pos 255 → twos 9 (complement 9 z) ≡ z
 twos-complement (pos n) low high = twos-low n (omega (arith, ints))

@@ -29,19 +29,21 @@ module _ (p : Plan) (d : Describes p) where
   -- a link within a task would join a side to itself, or be a second edge between two sides
   alone : Alone p
   alone l h same = by (linkOf p l .ends .«from_side») (linkOf p l .ends .«to_side») refl refl
-      where
-        edge : (s : Side) → linkOf p l .ends .«from_side» ≡ s → linkOf p l .ends .«to_side» ≡ other s → ⊥
-        edge s a b =
-            link-turn l (linkOf p l .ends .from) s
-              (d .ppo .once (link l) (turn (linkOf p l .ends .from) s) h (d .ppo .known (link l) h .0)
-                (λ i. record { task = linkOf p l .ends .from; side = a i }) (λ i. record { task = sym same i; side = b i }))
-        equal : linkOf p l .ends .«from_side» ≡ linkOf p l .ends .«to_side» → ⊥
-        equal a = d .restricted .apart (link l) h same (λ i. record { task = same i; side = a i })
-        by : (s r : Side) → linkOf p l .ends .«from_side» ≡ s → linkOf p l .ends .«to_side» ≡ r → ⊥
-        by Start Start a b = equal (a ∙ sym b)
-        by Start Finish a b = edge Start a b
-        by Finish Start a b = edge Finish a b
-        by Finish Finish a b = equal (a ∙ sym b)
+    where
+      edge : (s : Side) → linkOf p l .ends .«from_side» ≡ s → linkOf p l .ends .«to_side» ≡ other s → ⊥
+      edge s a b =
+          link-turn l (linkOf p l .ends .from) s
+          (d .ppo .once (link l) (turn (linkOf p l .ends .from) s) h (d .ppo .known (link l) h .0)
+          (λ i. record { task = linkOf p l .ends .from; side = a i }) (λ i. record { task = sym same i; side = b i }))
+
+      equal : linkOf p l .ends .«from_side» ≡ linkOf p l .ends .«to_side» → ⊥
+      equal a = d .restricted .apart (link l) h same (λ i. record { task = same i; side = a i })
+
+      by : (s r : Side) → linkOf p l .ends .«from_side» ≡ s → linkOf p l .ends .«to_side» ≡ r → ⊥
+      by Start Start a b = equal (a ∙ sym b)
+      by Start Finish a b = edge Start a b
+      by Finish Start a b = edge Finish a b
+      by Finish Finish a b = equal (a ∙ sym b)
 
   -- the initial valuation is the first word
   not-later : (t w i : ℕ) → t < taskCount p → d .restricted .initial t ≡ w ∷ [] → wordAt p t (suc i) ≡ Some w → ⊥
@@ -53,10 +55,10 @@ module _ (p : Plan) (d : Describes p) where
 
   first-is : (t : ℕ) → t < taskCount p → (w : ℕ) × (d .restricted .initial t ≡ w ∷ []) × (wordAt p t 0 ≡ Some w)
   first-is t h = let (w, is, (i, at)) = valuation-is p t (d .restricted .initial t) (d .restricted .valued t h) in (w, is, by w is i at)
-      where
-        by : (w : ℕ) → d .restricted .initial t ≡ w ∷ [] → (i : ℕ) → wordAt p t i ≡ Some w → wordAt p t 0 ≡ Some w
-        by w is zero e = e
-        by w is (suc i) e = absurd (not-later t w i h is e)
+    where
+      by : (w : ℕ) → d .restricted .initial t ≡ w ∷ [] → (i : ℕ) → wordAt p t i ≡ Some w → wordAt p t 0 ≡ Some w
+      by w is zero e = e
+      by w is (suc i) e = absurd (not-later t w i h is e)
 
   -- a word that stands at two places stands at the two places before them
   twice : (t i j w : ℕ) → i < j → wordAt p t i ≡ Some w → wordAt p t j ≡ Some w → ⊥
@@ -74,14 +76,14 @@ module _ (p : Plan) (d : Describes p) where
       let v = getD (wordsOf p t) i 0 in
       let x = getD (wordsOf p t) j 0 in
       let same = single-eq x v (d .restricted .injective t (x ∷ []) (v ∷ []) (w ∷ []) (word-known p t (suc i) w e)
-            (next-from p t j x w b (ap (wordAt p t) no ∙ f)) (next-from p t i v w a (ap (wordAt p t) on ∙ e))) in
+      (next-from p t j x w b (ap (wordAt p t) no ∙ f)) (next-from p t i v w a (ap (wordAt p t) on ∙ e))) in
       twice t i j v (omega arith) a (b ∙ ap Some same)
 
   differ : Differ p
   differ t i j w e f =
       ⊎-elim (λ below. absurd (twice t i j w below e f))
-        (λ above. ⊎-elim (λ under. absurd (twice t j i w under f e)) (λ over. omega arith) (cases-lt j i))
-        (cases-lt i j)
+      (λ above. ⊎-elim (λ under. absurd (twice t j i w under f e)) (λ over. omega arith) (cases-lt j i))
+      (cases-lt i j)
 
   module _ (l : ℕ) (h : l < linkCount p) where
     abbrev here : Link
@@ -114,31 +116,33 @@ module _ (p : Plan) (d : Describes p) where
 
     keeps-link : KeepsLink p here
     keeps-link = record {
-        from-known = d .ppo .known (link l) h .0;
-        to-known = d .ppo .known (link l) h .1;
-        apart = alone l h;
-        replies = replies;
-        lands = lands;
-        first-ones = λ i j w le e f. (let (z, is, _) = earlier i j w le f in none-some z (some-eq None (Some z) (sym e ∙ is)));
-        in-order = λ i j v w a b le e f g q.
-            (let (z, is, (n, s)) = earlier i j w le f in
-            let t = here .ends .to in
-            let (y, isy, (c, at, on)) = walked p alone differ t n b w (z ∷ []) s (nth-placeIn (wordsOf p t) w b q) in
-            let one = some-eq v z (some-eq (Some v) (Some z) (sym e ∙ is)) in
-            let same = differ t a c v (nth-placeIn (wordsOf p t) v a g) (at ∙ ap Some (sym (one ∙ single-eq z y isy))) in
-            omega arith) }
+      from-known = d .ppo .known (link l) h .0;
+      to-known = d .ppo .known (link l) h .1;
+      apart = alone l h;
+      replies = replies;
+      lands = lands;
+      first-ones = λ i j w le e f. (let (z, is, _) = earlier i j w le f in none-some z (some-eq None (Some z) (sym e ∙ is)));
+      in-order = λ i j v w a b le e f g q.
+          (let (z, is, (n, s)) = earlier i j w le f in
+          let t = here .ends .to in
+          let (y, isy, (c, at, on)) = walked p alone differ t n b w (z ∷ []) s (nth-placeIn (wordsOf p t) w b q) in
+          let one = some-eq v z (some-eq (Some v) (Some z) (sym e ∙ is)) in
+          let same = differ t a c v (nth-placeIn (wordsOf p t) v a g) (at ∙ ap Some (sym (one ∙ single-eq z y isy))) in
+          omega arith);
+    }
 
   pub rules-needed : Keeps p
   rules-needed = record {
-      few-tasks = d .within .few-tasks;
-      some-words = λ t h. (let (w, _, at) = first-is t h in nth-within (wordsOf p t) 0 w at);
-      few-words = d .within .few-words;
-      narrow = d .within .narrow;
-      differ = differ;
-      few-links = d .within .few-links;
-      links-keep = λ l k e. (let (h, is) = link-is p l k e in subst (KeepsLink p) is (keeps-link l h));
-      ends-differ = λ l m j k e f same.
-          (let (h, isj) = link-is p l j e in
-          let (g, isk) = link-is p m k f in
-          let ends = ap (λ x. x .ends) isj ∙ same ∙ sym (ap (λ x. x .ends) isk) in
-          link-eq l m (d .ppo .once (link l) (link m) h g (ap fromType ends) (ap toType ends))) }
+    few-tasks = d .within .few-tasks;
+    some-words = λ t h. (let (w, _, at) = first-is t h in nth-within (wordsOf p t) 0 w at);
+    few-words = d .within .few-words;
+    narrow = d .within .narrow;
+    differ = differ;
+    few-links = d .within .few-links;
+    links-keep = λ l k e. (let (h, is) = link-is p l k e in subst (KeepsLink p) is (keeps-link l h));
+    ends-differ = λ l m j k e f same.
+        (let (h, isj) = link-is p l j e in
+        let (g, isk) = link-is p m k f in
+        let ends = ap (λ x. x .ends) isj ∙ same ∙ sym (ap (λ x. x .ends) isk) in
+        link-eq l m (d .ppo .once (link l) (link m) h g (ap fromType ends) (ap toType ends)));
+  }

@@ -40,8 +40,9 @@ unless-ok false k begin at x h = absurd (let z : _≡_ {A = ℕ} 0 1 = cc in ome
 fieldAt-lt : (bs : List ℕ) (at width n : ℕ) → fieldAt bs at width ≡ Ok n → n < 2 ^ width
 fieldAt-lt bs at width n e =
     elim (cases-bool (ltb (length (bits bs)) (at + width))) [
-      inl t ↦ absurd (let f = rw t at e in let z : _≡_ {A = ℕ} 0 1 = cc in omega arith)
-    | inr t ↦ (let f = rw t at e in let same : spelled (field bs at width) ≡ n = cc in omega (arith, field-lt bs at width)) ]
+      | inl t ↦ absurd (let f = rw t at e in let z : _≡_ {A = ℕ} 0 1 = cc in omega arith)
+      | inr t ↦ (let f = rw t at e in let same : spelled (field bs at width) ≡ n = cc in omega (arith, field-lt bs at width))
+    ]
 
 pub number-ok : (bs : List ℕ) (width at : ℕ) (x : ℕ × ℕ) → number bs width at ≡ Ok x → x .0 < 2 ^ width
 number-ok bs width at x e = fieldAt-lt bs at width (x .0) (lifted-ok (fieldAt bs at width) (at + width) x e)
@@ -53,8 +54,9 @@ numberThat-ok bs width test k at x h =
     let n = a .0 .0 in
     let low = number-ok bs width at (a .0) (a .1) in
     elim (cases-bool (test n)) [
-      inl t ↦ (let f = rw t at (a .2) in let whole : (n, a .0 .1) ≡ x = cc in let same : n ≡ x .0 = ap (λ q. q .0) whole in (rw (← same) t, rw (← same) low))
-    | inr t ↦ absurd (let f = rw t at (a .2) in let z : _≡_ {A = ℕ} 0 1 = cc in omega arith) ]
+      | inl t ↦ (let f = rw t at (a .2) in let whole : (n, a .0 .1) ≡ x = cc in let same : n ≡ x .0 = ap (λ q. q .0) whole in (rw (← same) t, rw (← same) low))
+      | inr t ↦ absurd (let f = rw t at (a .2) in let z : _≡_ {A = ℕ} 0 1 = cc in omega arith)
+    ]
 
 -- an accepted parameter is a range of bytes
 pub param-ok : (bs : List ℕ) (at : ℕ) (x : Param × ℕ) → param bs at ≡ Ok x → (x .0 .low ≤ x .0 .high) × (x .0 .high < base)

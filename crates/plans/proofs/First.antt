@@ -26,10 +26,10 @@ module _ (test : ℕ → Bool) where
   first-found (suc n) j h none is =
       ⊎-elim (λ below. ap (λ o. orOther o (cond (test n) (Some n) None)) (first-found n j below none is))
       (λ above.
-          let same : j ≡ n = omega arith in
-          let none-n : firstBelow test n ≡ None = ap (firstBelow test) (sym same) ∙ none in
-          let is-n : test n ≡ true = ap test (sym same) ∙ is in
-          ap (λ o. orOther o (cond (test n) (Some n) None)) none-n ∙ ap (λ b. cond b (Some n) None) is-n ∙ ap Some (sym same))
+      let same : j ≡ n = omega arith in
+      let none-n : firstBelow test n ≡ None = ap (firstBelow test) (sym same) ∙ none in
+      let is-n : test n ≡ true = ap test (sym same) ∙ is in
+      ap (λ o. orOther o (cond (test n) (Some n) None)) none-n ∙ ap (λ b. cond b (Some n) None) is-n ∙ ap Some (sym same))
       (cases-lt j n)
 
   either-some : (x y : Option ℕ) → isSome x ≡ true → isSome (orOther x y) ≡ true
@@ -45,8 +45,8 @@ module _ (test : ℕ → Bool) where
   first-some (suc n) i h is =
       ⊎-elim (λ below. either-some (firstBelow test n) (cond (test n) (Some n) None) (first-some n i below is))
       (λ above.
-          let same : i ≡ n = omega arith in
-          ap (λ b. isSome (orOther (firstBelow test n) (cond b (Some n) None))) (ap test (sym same) ∙ is) ∙ or-some (firstBelow test n) n)
+      let same : i ≡ n = omega arith in
+      ap (λ b. isSome (orOther (firstBelow test n) (cond b (Some n) None))) (ap test (sym same) ∙ is) ∙ or-some (firstBelow test n) n)
       (cases-lt i n)
 
   found-in : (x : Option ℕ) (n j : ℕ) → ((i : ℕ) → x ≡ Some i → (i < n) × (test i ≡ true)) → orOther x (cond (test n) (Some n) None) ≡ Some j → (j < suc n) × (test j ≡ true)
@@ -56,8 +56,9 @@ module _ (test : ℕ → Bool) where
       (omega (arith, p .0), ap test (sym same) ∙ p .1)
   found-in None n j h e =
       elim (cases-bool (test n)) [
-        inl t ↦ (let f = rw t at e in let same : n ≡ j = cc in (omega arith, ap test (sym same) ∙ t))
-      | inr t ↦ absurd (let f = rw t at e in let z : _≡_ {A = ℕ} 0 1 = cc in omega arith) ]
+        | inl t ↦ (let f = rw t at e in let same : n ≡ j = cc in (omega arith, ap test (sym same) ∙ t))
+        | inr t ↦ absurd (let f = rw t at e in let z : _≡_ {A = ℕ} 0 1 = cc in omega arith)
+      ]
 
   -- what is found passes the test
   pub first-is : (n j : ℕ) → firstBelow test n ≡ Some j → (j < n) × (test j ≡ true)
@@ -69,8 +70,9 @@ module _ (test : ℕ → Bool) where
   none-in (Some i) n e = absurd (let z : _≡_ {A = ℕ} 0 1 = cc in omega arith)
   none-in None n e =
       elim (cases-bool (test n)) [
-        inl t ↦ absurd (let f = rw t at e in let z : _≡_ {A = ℕ} 0 1 = cc in omega arith)
-      | inr t ↦ (refl, t) ]
+        | inl t ↦ absurd (let f = rw t at e in let z : _≡_ {A = ℕ} 0 1 = cc in omega arith)
+        | inr t ↦ (refl, t)
+      ]
 
   pub none-is : (n : ℕ) → firstBelow test n ≡ None → (k : ℕ) → k < n → test k ≡ false
   none-is zero e k h = absurd (omega arith)

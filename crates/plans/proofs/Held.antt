@@ -70,7 +70,8 @@ ends-is a b h =
       from = eqb-true (a .from) (b .from) (p .0) i;
       «from_side» = side-is (a .«from_side») (b .«from_side») (q .0) i;
       to = eqb-true (a .to) (b .to) (r .0) i;
-      «to_side» = side-is (a .«to_side») (b .«to_side») (r .1) i }
+      «to_side» = side-is (a .«to_side») (b .«to_side») (r .1) i;
+    }
 
 pub ends-same : (a : Ends) → sameEnds a a ≡ true
 ends-same a =
@@ -88,10 +89,11 @@ getD-ends (l ∷ ls) (suc i) = getD-ends ls i
 apart-none : (ls : List Link) (n : ℕ) → Apart (λ a b. a ≡ b) (map endsOf ls) n → firstBelow (repeats ls) n ≡ None
 apart-none ls n apart =
     first-none (repeats ls) n (λ k h.
-        ap isSome (first-none (λ i. sameEnds (linkAt ls i .ends) (linkAt ls k .ends)) k (λ i l.
-        elim (cases-bool (sameEnds (linkAt ls i .ends) (linkAt ls k .ends))) [
-          inl t ↦ absurd (apart i k (noLink .ends) l h (getD-ends ls i ∙ ends-is (linkAt ls i .ends) (linkAt ls k .ends) t ∙ sym (getD-ends ls k)))
-        | inr t ↦ t ])))
+    ap isSome (first-none (λ i. sameEnds (linkAt ls i .ends) (linkAt ls k .ends)) k (λ i l.
+    elim (cases-bool (sameEnds (linkAt ls i .ends) (linkAt ls k .ends))) [
+      | inl t ↦ absurd (apart i k (noLink .ends) l h (getD-ends ls i ∙ ends-is (linkAt ls i .ends) (linkAt ls k .ends) t ∙ sym (getD-ends ls k)))
+      | inr t ↦ t
+    ])))
 
 -- the search for a repeat finds the first link that repeats
 pub repeat-first : (ls : List Link) (r : Option ℕ) → Repeat (λ a b. a ≡ b) (map endsOf ls) r → r ≡ firstBelow (repeats ls) (length ls)

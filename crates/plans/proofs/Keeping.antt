@@ -140,9 +140,9 @@ module _ (p : Parts) (f : Read-facts p) where
       let m = nth-map (planLink (p .tasks)) (p .links) l ∙ ap (mapped (planLink (p .tasks))) (nth-getD (p .links) l noLink h) in
       let same : Some (planLink (p .tasks) (linkAt (p .links) l)) ≡ Some k = sym m ∙ e in
       (h, some-same (planLink (p .tasks) (linkAt (p .links) l)) k same)
-      where
-        some-same : (x y : Link) → Some x ≡ Some y → x ≡ y
-        some-same x y e = cc
+    where
+      some-same : (x y : Link) → Some x ≡ Some y → x ≡ y
+      some-same x y e = cc
 
   narrow : (t i w : ℕ) → nth (wordsOf (planOf p) t) i ≡ Some w → w < 2 ^ 32
   narrow t i w e =
@@ -168,7 +168,8 @@ module _ (p : Parts) (f : Read-facts p) where
         few-words = few-words;
         narrow = narrow;
         few-links = omega (arith, f .few-links, length-map (p .links) (planLink (p .tasks)));
-        replies = λ l k e. (let i = link-is l k e in subst (λ x. length (x .targets) ≡ length (wordsOf (planOf p) (x .ends .from))) (i .1) (replies l (i .0))) }
+        replies = λ l k e. (let i = link-is l k e in subst (λ x. length (x .targets) ≡ length (wordsOf (planOf p) (x .ends .from))) (i .1) (replies l (i .0)));
+      }
 
 module _ (p : Parts) (f : Facts p) where
   -- the rules of a link
@@ -190,11 +191,12 @@ module _ (p : Parts) (f : Facts p) where
         lands = λ i w r. (let q = landed from to (l .rules) i w r in ap isSome (ap (λ ws. placeIn ws w) there ∙ q .1));
         first-ones = λ i k w le r q. none-then-some from to (l .rules) o i k w le r q;
         in-order = λ i k v w a b le r q m n.
-            o .keeps i k a b le (placed from to (l .rules) i v a r (ap (λ ws. placeIn ws v) (sym there) ∙ m)) (placed from to (l .rules) k w b q (ap (λ ws. placeIn ws w) (sym there) ∙ n)) }
-      where
-        kept : (b : Bool) → not b ≡ false → b ≡ true
-        kept true h = refl
-        kept false h = absurd (false≢true (sym h))
+            o .keeps i k a b le (placed from to (l .rules) i v a r (ap (λ ws. placeIn ws v) (sym there) ∙ m)) (placed from to (l .rules) k w b q (ap (λ ws. placeIn ws w) (sym there) ∙ n));
+      }
+    where
+      kept : (b : Bool) → not b ≡ false → b ≡ true
+      kept true h = refl
+      kept false h = absurd (false≢true (sym h))
 
   -- two links with the same ends are one
   not-later : (l m : ℕ) → l < m → m < length (p .links) → linkAt (p .links) l .ends ≡ linkAt (p .links) m .ends → ⊥
@@ -223,18 +225,19 @@ module _ (p : Parts) (f : Facts p) where
             let ends : linkAt (p .links) l .ends ≡ linkAt (p .links) m .ends = ap (λ x. x .ends) (a .1) ∙ same ∙ sym (ap (λ x. x .ends) (b .1)) in
             ⊎-elim (λ below. absurd (not-later l m below (b .0) ends))
             (λ above. ⊎-elim (λ over. absurd (not-later m l over (a .0) (sym ends))) (λ under. omega arith) (cases-lt m l))
-            (cases-lt l m)) }
+            (cases-lt l m));
+      }
 
 -- what a record that passes has shown, and the parts of one that does not
 late-ok : (p q : Parts) → late p ≡ Ok q → (firstBelow (repeats (p .links)) (length (p .links)) ≡ None) × (firstBelow (unordered (p .tasks) (p .links)) (length (p .links)) ≡ None) × (p ≡ q)
 late-ok p q h = by (firstBelow (repeats (p .links)) (length (p .links))) (firstBelow (unordered (p .tasks) (p .links)) (length (p .links))) refl refl h
-    where
-      by : (a b : Option ℕ) → firstBelow (repeats (p .links)) (length (p .links)) ≡ a → firstBelow (unordered (p .tasks) (p .links)) (length (p .links)) ≡ b
-          → orFault kind.Repeated (p .links) a (orFault kind.Order (p .links) b (Ok p)) ≡ Ok q
-          → (firstBelow (repeats (p .links)) (length (p .links)) ≡ None) × (firstBelow (unordered (p .tasks) (p .links)) (length (p .links)) ≡ None) × (p ≡ q)
-      by None None ea eb h = (ea, eb, cc)
-      by None (Some j) ea eb h = absurd (let z : _≡_ {A = ℕ} 0 1 = cc in omega arith)
-      by (Some j) b ea eb h = absurd (let z : _≡_ {A = ℕ} 0 1 = cc in omega arith)
+  where
+    by : (a b : Option ℕ) → firstBelow (repeats (p .links)) (length (p .links)) ≡ a → firstBelow (unordered (p .tasks) (p .links)) (length (p .links)) ≡ b
+        → orFault kind.Repeated (p .links) a (orFault kind.Order (p .links) b (Ok p)) ≡ Ok q
+        → (firstBelow (repeats (p .links)) (length (p .links)) ≡ None) × (firstBelow (unordered (p .tasks) (p .links)) (length (p .links)) ≡ None) × (p ≡ q)
+    by None None ea eb h = (ea, eb, cc)
+    by None (Some j) ea eb h = absurd (let z : _≡_ {A = ℕ} 0 1 = cc in omega arith)
+    by (Some j) b ea eb h = absurd (let z : _≡_ {A = ℕ} 0 1 = cc in omega arith)
 
 pub checked-ok : (bs : List ℕ) (q : Parts) → checked bs ≡ Ok q → (fields bs ≡ Ok q) × (firstBelow (repeats (q .links)) (length (q .links)) ≡ None) × (firstBelow (unordered (q .tasks) (q .links)) (length (q .links)) ≡ None)
 unfolding checked
@@ -246,23 +249,25 @@ checked-ok bs q h =
 -- a decoded record keeps the rules
 pub record-keeps : (bs : List ℕ) (r : Record) → shown r ≡ partsOr (checked bs) → Keeps (planOf (shown r))
 record-keeps bs r is = by (checked bs) refl
-    where
-      by : (m : Result Parts Fault) → checked bs ≡ m → Keeps (planOf (shown r))
-      by (Ok q) e =
-          let same : q ≡ shown r = ap partsOr (sym e) ∙ sym is in
-          let ok = checked-ok bs (shown r) (e ∙ ap Ok same) in
-          let t = r .tasks in
-          let full = t .full in
-          let few = t .few in
-          let long = length-take-le (t .count) (t .each) (omega arith) in
-          keeps (shown r) (record {
-            read = record {
-              few = omega (arith, long);
-              good = t .good;
-              few-links = omega (arith, links-long r, r .few);
-              good-links = subst (λ n. goodLinks n (linksOf r) ≡ true) (sym long) (r .good) };
-            apart = ok .1;
-            ordered = ok .2 })
-      by (Err f) e =
-          subst (λ p. Keeps (planOf p)) (ap partsOr (sym e) ∙ sym is)
-          (keeps (record { tasks = []; links = []; names = [] }) (record { read = record { few = omega arith; good = refl; few-links = omega arith; good-links = refl }; apart = refl; ordered = refl }))
+  where
+    by : (m : Result Parts Fault) → checked bs ≡ m → Keeps (planOf (shown r))
+    by (Ok q) e =
+        let same : q ≡ shown r = ap partsOr (sym e) ∙ sym is in
+        let ok = checked-ok bs (shown r) (e ∙ ap Ok same) in
+        let t = r .tasks in
+        let full = t .full in
+        let few = t .few in
+        let long = length-take-le (t .count) (t .each) (omega arith) in
+        keeps (shown r) (record {
+          read = record {
+            few = omega (arith, long);
+            good = t .good;
+            few-links = omega (arith, links-long r, r .few);
+            good-links = subst (λ n. goodLinks n (linksOf r) ≡ true) (sym long) (r .good);
+          };
+          apart = ok .1;
+          ordered = ok .2;
+        })
+    by (Err f) e =
+        subst (λ p. Keeps (planOf p)) (ap partsOr (sym e) ∙ sym is)
+        (keeps (record { tasks = []; links = []; names = [] }) (record { read = record { few = omega arith; good = refl; few-links = omega arith; good-links = refl }; apart = refl; ordered = refl }))

@@ -18,7 +18,8 @@ laws-of-records =
       told = valuesOf-wordOf;
       dropped = quotient-pos;
       rises = quotient-mono;
-      tested = order-is-tested }
+      tested = order-is-tested;
+    }
 
 pub laws-of-plans : Laws-of-plans
 laws-of-plans = record { enough = describes; needed = rules-needed; precede = precede; rest = rest }

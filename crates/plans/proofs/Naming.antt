@@ -36,24 +36,26 @@ use Rattle.plans.proofs.Keeping.{checked-ok}
 field-end : (bs : List ℕ) (width at : ℕ) (x : ℕ × ℕ) → number bs width at ≡ Ok x → (x .1 ≡ at + width) × (x .1 ≤ 8 * length bs)
 field-end bs width at x e =
     elim (cases-bool (ltb (length (bits bs)) (at + width))) [
-      inl t ↦ absurd (let f = rw t at e in let z : _≡_ {A = ℕ} 0 1 = cc in omega arith)
-    | inr t ↦
-        (let f = rw t at e in
-        let same : at + width ≡ x .1 = ap (λ q. second q) f in
-        let low = ltb-false (length (bits bs)) (at + width) t in
-        (sym same, omega (arith, same, low, length-bits bs))) ]
-    where
-      second : Result (ℕ × ℕ) Fault → ℕ
-      second (Ok q) = q .1
-      second (Err e) = 0
+      | inl t ↦ absurd (let f = rw t at e in let z : _≡_ {A = ℕ} 0 1 = cc in omega arith)
+      | inr t ↦
+          (let f = rw t at e in
+          let same : at + width ≡ x .1 = ap (λ q. second q) f in
+          let low = ltb-false (length (bits bs)) (at + width) t in
+          (sym same, omega (arith, same, low, length-bits bs)))
+    ]
+  where
+    second : Result (ℕ × ℕ) Fault → ℕ
+    second (Ok q) = q .1
+    second (Err e) = 0
 
 that-end : (bs : List ℕ) (width : ℕ) (test : ℕ → Bool) (k : Kind) (at : ℕ) (x : ℕ × ℕ) → numberThat bs width test k at ≡ Ok x → (x .1 ≡ at + width) × (x .1 ≤ 8 * length bs)
 that-end bs width test k at x h =
     let a = onOk-ok (number bs width at) (λ r. next (unless (test (r .0)) k at) (λ _. give (r .0)) (r .1)) x h in
     let ends = field-end bs width at (a .0) (a .1) in
     elim (cases-bool (test (a .0 .0))) [
-      inl t ↦ (let f = rw t at (a .2) in let whole : (a .0 .0, a .0 .1) ≡ x = cc in let same : a .0 .1 ≡ x .1 = ap (λ q. q .1) whole in (sym same ∙ ends .0, omega (arith, same, ends .1)))
-    | inr t ↦ absurd (let f = rw t at (a .2) in let z : _≡_ {A = ℕ} 0 1 = cc in omega arith) ]
+      | inl t ↦ (let f = rw t at (a .2) in let whole : (a .0 .0, a .0 .1) ≡ x = cc in let same : a .0 .1 ≡ x .1 = ap (λ q. q .1) whole in (sym same ∙ ends .0, omega (arith, same, ends .1)))
+      | inr t ↦ absurd (let f = rw t at (a .2) in let z : _≡_ {A = ℕ} 0 1 = cc in omega arith)
+    ]
 
 letter-end : (bs : List ℕ) (at : ℕ) (x : Letter × ℕ) → letter bs at ≡ Ok x → (x .1 ≡ at + 8) × (x .1 ≤ 8 * length bs)
 letter-end bs at x h =
@@ -115,10 +117,10 @@ names-inside bs p h =
 
 pub record-inside : (bs : List ℕ) (r : Record) → shown r ≡ partsOr (checked bs) → insideAll (length bs) (shown r .names) ≡ true
 record-inside bs r is = subst (λ p. insideAll (length bs) (p .names) ≡ true) (sym is) (by (checked bs) refl)
-    where
-      by : (m : Result Parts Fault) → checked bs ≡ m → insideAll (length bs) (partsOr m .names) ≡ true
-      by (Ok q) e = names-inside bs q (checked-ok bs q e .0)
-      by (Err f) e = refl
+  where
+    by : (m : Result Parts Fault) → checked bs ≡ m → insideAll (length bs) (partsOr m .names) ≡ true
+    by (Ok q) e = names-inside bs q (checked-ok bs q e .0)
+    by (Err f) e = refl
 
 pub inside-at : (n : ℕ) (xs : List Name) (t : ℕ) → insideAll n xs ≡ true → t < length xs → getD xs t noName .at + getD xs t noName .length ≤ n
 inside-at n [] t h l = absurd (omega arith)

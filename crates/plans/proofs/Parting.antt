@@ -54,13 +54,14 @@ param-forth bs at end p good sp =
     let top = good .1 in
     let a = number-forth bs 8 at m low (omega arith) (omega arith) (spells-first s A (B ++ C) at end sp) in
     let b = numberThat-forth bs 8 m k high (omega arith) (omega arith) (spells-first s B C m end r) (λ high. leb low high) kind.Params (le-leb low high order) in
-    let c = number-forth bs 1 k end n (omega arith) (flag-small (p .down)) (spells-rest s B C m end r) in
-    (p,
-     onOk-from (number bs 8 at) _ (low, m) _ a
-     (onOk-from (numberThat bs 8 (λ high. leb low high) kind.Params m) _ (high, k) _ b
-     (onOk-from (number bs 1 k) _ (n, end) _ c
-     (ap (λ b. Ok (record { low = low; high = high; down = b }, end)) (flag-of (p .down))))),
-     refl)
+    let c = number-forth bs 1 k end n (omega arith) (flag-small (p .down)) (spells-rest s B C m end r) in (
+      p,
+      onOk-from (number bs 8 at) _ (low, m) _ a
+          (onOk-from (numberThat bs 8 (λ high. leb low high) kind.Params m) _ (high, k) _ b
+          (onOk-from (number bs 1 k) _ (n, end) _ c
+          (ap (λ b. Ok (record { low = low; high = high; down = b }, end)) (flag-of (p .down))))),
+      refl,
+    )
 
 pub task-forth : (bs : List ℕ) → Forth (bits bs) (task bs) taskBits TaskLimits shaped itself
 task-forth bs at end t good sp =
@@ -75,12 +76,13 @@ task-forth bs at end t good sp =
     let a = numberThat-forth bs 3 at m n (omega arith) (omega arith) (spells-first s A B at end sp) (λ n. leb n 4) kind.Params (le-leb n 4 few) in
     let b = rows-forth s (param bs) paramBits Range (param-forth bs) m end ps (good .ranges) (spells-rest s A B at end sp) in
     let most = le-leb (count (filled ps)) mostWords (omega (arith, count-filled (4 - length ps) ps)) in
-    let c = unless-from (leb (count (filled ps)) mostWords) kind.Words at end most in
-    (shaped t,
-     onOk-from (numberThat bs 3 (λ n. leb n 4) kind.Params at) _ (n, m) _ a
-     (onOk-from (times n (param bs) m) _ (ps, end) _ b
-     (onOk-from (unless (leb (count (filled ps)) mostWords) kind.Words at end) _ (tt, end) _ c refl)),
-     refl)
+    let c = unless-from (leb (count (filled ps)) mostWords) kind.Words at end most in (
+      shaped t,
+      onOk-from (numberThat bs 3 (λ n. leb n 4) kind.Params at) _ (n, m) _ a
+          (onOk-from (times n (param bs) m) _ (ps, end) _ b
+          (onOk-from (unless (leb (count (filled ps)) mostWords) kind.Words at end) _ (tt, end) _ c refl)),
+      refl,
+    )
 
 pick-passes : (pick sources : ℕ) → (pick < sources) ⊎ (pick ≡ 4) → (ltb pick sources || eqb pick 4) ≡ true
 pick-passes pick sources (inl h) = or-left (ltb pick sources) (eqb pick 4) (lt-ltb pick sources h)
@@ -107,13 +109,14 @@ rule-forth bs sources few at end r good sp =
     let test = λ (pick : ℕ). ltb pick sources || eqb pick 4 in
     let a = numberThat-forth bs 3 at m pick (omega arith) (pick-small pick sources few (good .picks)) (spells-first s A (B ++ C) at end sp) test kind.Rule (pick-passes pick sources (good .picks)) in
     let b = number-forth bs 9 m k n (omega arith) (complement-small (r .add) (good .low) (good .high)) (spells-first s B C m end rest) in
-    let c = numberThat-forth bs 4 k end divisor (omega arith) (omega arith) (spells-rest s B C m end rest) (λ divisor. ltb 0 divisor) kind.Rule (lt-ltb 0 divisor some) in
-    (r,
-     onOk-from (numberThat bs 3 test kind.Rule at) _ (pick, m) _ a
-     (onOk-from (number bs 9 m) _ (n, k) _ b
-     (onOk-from (numberThat bs 4 (λ divisor. ltb 0 divisor) kind.Rule k) _ (divisor, end) _ c
-     (ap (λ z. Ok (record { pick = pick; add = z; divisor = divisor }, end)) (twos-complement (r .add) (good .low) (good .high))))),
-     refl)
+    let c = numberThat-forth bs 4 k end divisor (omega arith) (omega arith) (spells-rest s B C m end rest) (λ divisor. ltb 0 divisor) kind.Rule (lt-ltb 0 divisor some) in (
+      r,
+      onOk-from (numberThat bs 3 test kind.Rule at) _ (pick, m) _ a
+          (onOk-from (number bs 9 m) _ (n, k) _ b
+          (onOk-from (numberThat bs 4 (λ divisor. ltb 0 divisor) kind.Rule k) _ (divisor, end) _ c
+          (ap (λ z. Ok (record { pick = pick; add = z; divisor = divisor }, end)) (twos-complement (r .add) (good .low) (good .high))))),
+      refl,
+    )
 
 ends-forth : (bs : List ℕ) (at end : ℕ) (e : Ends) → e .from < 32 → e .to < 32 → Spells (bits bs) at (endsBits e) end → ends bs at ≡ Ok (e, end)
 ends-forth bs at end e from to sp =
@@ -174,12 +177,13 @@ link-forth bs tasks d alike few short at end l good sp =
     let rules = subst (λ k. All (RuleLimits k) rs) (sym (alike .used (e .from))) (g .rules) in
     let most : sources ≤ 4 = omega (arith, alike .used (e .from), short (e .from)) in
     let c = rows-forth s (rule bs sources) ruleBits (RuleLimits sources) (rule-forth bs sources most) m end rs rules (spells-rest s A B at end sp) in
-    let c′ = subst (λ k. times k (rule bs sources) m ≡ Ok (rs, end)) ruled c in
-    (record { ends = e; rules = filledBy noRule rs; begins = at },
-     onOk-from (ends bs at) _ (e, m) _ a
-     (onOk-from (unless (join (length tasks) e) kind.Ends at m) _ (tt, m) _ b
-     (onOk-from (times n (rule bs sources) m) _ (rs, end) _ c′ refl)),
-     refl)
+    let c′ = subst (λ k. times k (rule bs sources) m ≡ Ok (rs, end)) ruled c in (
+      record { ends = e; rules = filledBy noRule rs; begins = at },
+      onOk-from (ends bs at) _ (e, m) _ a
+          (onOk-from (unless (join (length tasks) e) kind.Ends at m) _ (tt, m) _ b
+          (onOk-from (times n (rule bs sources) m) _ (rs, end) _ c′ refl)),
+      refl,
+    )
 
 letter-forth : (bs : List ℕ) → Forth (bits bs) (letter bs) (digits 8) LetterLimits unseen unseen
 letter-forth bs at end b good sp =
@@ -201,7 +205,8 @@ name-forth bs at end t good sp =
     let few = good .short in
     let test = λ (n : ℕ). leb 1 n && leb n 15 in
     let a = numberThat-forth bs 8 at m n (omega arith) (omega arith) (spells-first s A B at end sp) test kind.Text (and-from (leb 1 n) (leb n 15) (le-leb 1 n some) (le-leb n 15 few)) in
-    let b = times-forth s (letter bs) (digits 8) LetterLimits unseen unseen (letter-forth bs) m end ns (good .letters) (spells-rest s A B at end sp) in
-    (record { at = m / 8; length = n },
-     onOk-from (numberThat bs 8 test kind.Text at) _ (n, m) _ a (onOk-from (times n (letter bs) m) _ (b .0, end) _ (b .1) refl),
-     refl)
+    let b = times-forth s (letter bs) (digits 8) LetterLimits unseen unseen (letter-forth bs) m end ns (good .letters) (spells-rest s A B at end sp) in (
+      record { at = m / 8; length = n },
+      onOk-from (numberThat bs 8 test kind.Text at) _ (n, m) _ a (onOk-from (times n (letter bs) m) _ (b .0, end) _ (b .1) refl),
+      refl,
+    )

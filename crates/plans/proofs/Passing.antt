@@ -44,9 +44,10 @@ counts-few bs at x h =
     let c = onOk-ok (numberThat bs 7 (λ n. leb n 64) kind.Counts (b .0 .1)) _ x (b .2) in
     let whole = ok-is (record { tasks = b .0 .0; links = c .0 .0 }, c .0 .1) x (c .2) in
     let tb = numberThat-ok bs 6 (λ n. leb 1 n && leb n 32) kind.Counts (a .0 .1) (b .0) (b .1) in
-    let lb = numberThat-ok bs 7 (λ n. leb n 64) kind.Counts (b .0 .1) (c .0) (c .1) in
-    (subst (λ q. q .0 .tasks ≤ 32) whole (leb-true (b .0 .0) 32 (and-parts (leb 1 (b .0 .0)) (leb (b .0 .0) 32) (tb .0) .1)),
-     subst (λ q. q .0 .links ≤ 64) whole (leb-true (c .0 .0) 64 (lb .0)))
+    let lb = numberThat-ok bs 7 (λ n. leb n 64) kind.Counts (b .0 .1) (c .0) (c .1) in (
+      subst (λ q. q .0 .tasks ≤ 32) whole (leb-true (b .0 .0) 32 (and-parts (leb 1 (b .0 .0)) (leb (b .0 .0) 32) (tb .0) .1)),
+      subst (λ q. q .0 .links ≤ 64) whole (leb-true (c .0 .0) 64 (lb .0)),
+    )
 
 body-facts : (bs : List ℕ) (n : Counts) (at : ℕ) (x : Parts × ℕ) → n .tasks ≤ 32 → n .links ≤ 64 → body bs n at ≡ Ok x → Read-facts (x .0)
 body-facts bs n at x few fewl h =
@@ -101,7 +102,8 @@ module _ (os : List (Option ℕ)) (earlier : (i j b : ℕ) → i ≤ j → nth o
         d = lead os;
         first = lead-first os;
         after = λ i le h. none-after i (getD os i None) le (nth-getD os i None h);
-        keeps = λ i j p q le e f. (let a = earlier i j q le f in let same = some-eq p (a .0) (some-eq (Some p) (Some (a .0)) (sym e ∙ a .1)) in omega (arith, same, a .2)) }
+        keeps = λ i j p q le e f. (let a = earlier i j q le f in let same = some-eq p (a .0) (some-eq (Some p) (Some (a .0)) (sym e ∙ a .1)) in omega (arith, same, a .2));
+      }
 
 -- an option that is there
 some-from : {A : Type 0} (o : Option A) → isSome o ≡ true → (x : A) × (o ≡ Some x)
@@ -112,15 +114,16 @@ module _ (q : Parts) (r : Read-facts q) (k : Keeps (planOf q)) where
   none-repeats : firstBelow (repeats (q .links)) (length (q .links)) ≡ None
   none-repeats =
       first-none (repeats (q .links)) (length (q .links)) (λ m h.
-          elim (cases-bool (repeats (q .links) m)) [
-            inl t ↦ (
-              let test : ℕ → Bool = λ i. sameEnds (linkAt (q .links) i .ends) (linkAt (q .links) m .ends) in
-              let f = some-from (firstBelow test m) t in
-              let g = first-is test m (f .0) (f .1) in
-              let same = ends-is (linkAt (q .links) (f .0) .ends) (linkAt (q .links) m .ends) (g .1) in
-              let one = k .ends-differ (f .0) m _ _ (link-in q r (f .0) (omega (arith, g .0))) (link-in q r m h) same in
-              absurd (omega (arith, one, g .0)))
-          | inr t ↦ t ])
+      elim (cases-bool (repeats (q .links) m)) [
+        | inl t ↦ (
+            let test : ℕ → Bool = λ i. sameEnds (linkAt (q .links) i .ends) (linkAt (q .links) m .ends) in
+            let f = some-from (firstBelow test m) t in
+            let g = first-is test m (f .0) (f .1) in
+            let same = ends-is (linkAt (q .links) (f .0) .ends) (linkAt (q .links) m .ends) (g .1) in
+            let one = k .ends-differ (f .0) m _ _ (link-in q r (f .0) (omega (arith, g .0))) (link-in q r m h) same in
+            absurd (omega (arith, one, g .0)))
+        | inr t ↦ t
+      ])
 
   module _ (j : ℕ) (h : j < length (q .links)) where
     keeps-link : KeepsLink (planOf q) (planLink (q .tasks) (linkAt (q .links) j))
@@ -149,24 +152,26 @@ module _ (q : Parts) (r : Read-facts q) (k : Keeps (planOf q)) where
         let at = target-at n b e in
         let room = nth-within ts n (Some (at .0)) (at .1) in
         by (getD ts i None) (nth-getD ts i None (omega arith)) at (ap placeIn there)
-        where
-          by : (o : Option ℕ) → nth (planLink (q .tasks) (linkAt (q .links) j) .targets) i ≡ Some o → ((z : ℕ) × (nth (planLink (q .tasks) (linkAt (q .links) j) .targets) n ≡ Some (Some z)) × (placeIn (words (taskOf (q .tasks) (linkAt (q .links) j .ends .to) .each)) z ≡ Some b))
-              → placeOf (planOf q) (linkAt (q .links) j .ends .to) ≡ placeIn (words (taskOf (q .tasks) (linkAt (q .links) j .ends .to) .each))
-              → (a : ℕ) × (nth (placesOf (q .tasks) (linkAt (q .links) j)) i ≡ Some (Some a)) × (a ≤ b)
-          by None is at there = absurd (keeps-link .first-ones i n (at .0) le is (at .1))
-          by (Some v) is at there =
-              let l = linkAt (q .links) j in
-              let from = taskOf (q .tasks) (l .ends .from) .each in
-              let to = taskOf (q .tasks) (l .ends .to) .each in
-              let lands = some-from (placeOf (planOf q) (l .ends .to) v) (keeps-link .lands i v is) in
-              let place = ap (λ f. f v) (sym there) ∙ lands .1 in
-              (lands .0, placed from to (l .rules) i v (lands .0) is place,
-               keeps-link .in-order i n v (at .0) (lands .0) b le is (at .1) (lands .1) (ap (λ f. f (at .0)) there ∙ at .2))
+      where
+        by : (o : Option ℕ) → nth (planLink (q .tasks) (linkAt (q .links) j) .targets) i ≡ Some o → ((z : ℕ) × (nth (planLink (q .tasks) (linkAt (q .links) j) .targets) n ≡ Some (Some z)) × (placeIn (words (taskOf (q .tasks) (linkAt (q .links) j .ends .to) .each)) z ≡ Some b))
+            → placeOf (planOf q) (linkAt (q .links) j .ends .to) ≡ placeIn (words (taskOf (q .tasks) (linkAt (q .links) j .ends .to) .each))
+            → (a : ℕ) × (nth (placesOf (q .tasks) (linkAt (q .links) j)) i ≡ Some (Some a)) × (a ≤ b)
+        by None is at there = absurd (keeps-link .first-ones i n (at .0) le is (at .1))
+        by (Some v) is at there =
+            let l = linkAt (q .links) j in
+            let from = taskOf (q .tasks) (l .ends .from) .each in
+            let to = taskOf (q .tasks) (l .ends .to) .each in
+            let lands = some-from (placeOf (planOf q) (l .ends .to) v) (keeps-link .lands i v is) in
+            let place = ap (λ f. f v) (sym there) ∙ lands .1 in (
+              lands .0,
+              placed from to (l .rules) i v (lands .0) is place,
+              keeps-link .in-order i n v (at .0) (lands .0) b le is (at .1) (lands .1) (ap (λ f. f (at .0)) there ∙ at .2),
+            )
 
   none-unordered : firstBelow (unordered (q .tasks) (q .links)) (length (q .links)) ≡ None
   none-unordered =
       first-none (unordered (q .tasks) (q .links)) (length (q .links)) (λ j h.
-          ap not (order-is-tested (placesOf (q .tasks) (linkAt (q .links) j)) .1 (ordered-from (placesOf (q .tasks) (linkAt (q .links) j)) (earlier j h))))
+      ap not (order-is-tested (placesOf (q .tasks) (linkAt (q .links) j)) .1 (ordered-from (placesOf (q .tasks) (linkAt (q .links) j)) (earlier j h))))
 
   pub passes : late q ≡ Ok q
   passes =

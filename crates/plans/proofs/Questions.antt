@@ -89,10 +89,10 @@ module _ (r : Record) where
 reply-at : (from to : List Param) (rs : List Rule) (w : ℕ)
     → targetAt from to rs w ≡ andThen (placeIn (words from) w) (λ i. flattened (nth (map (targetAt from to rs) (words from)) i))
 reply-at from to rs w = by (placeIn (words from) w) refl
-    where
-      by : (o : Option ℕ) → placeIn (words from) w ≡ o → targetAt from to rs w ≡ andThen o (λ i. flattened (nth (map (targetAt from to rs) (words from)) i))
-      by None e = ap (λ o. andThen o (λ _. mapped wordOf (valuesFor rs to (valuesOf w)))) e
-      by (Some i) e = sym (ap flattened (nth-map (targetAt from to rs) (words from) i ∙ ap (mapped (targetAt from to rs)) (nth-placeIn (words from) w i e)))
+  where
+    by : (o : Option ℕ) → placeIn (words from) w ≡ o → targetAt from to rs w ≡ andThen o (λ i. flattened (nth (map (targetAt from to rs) (words from)) i))
+    by None e = ap (λ o. andThen o (λ _. mapped wordOf (valuesFor rs to (valuesOf w)))) e
+    by (Some i) e = sym (ap flattened (nth-map (targetAt from to rs) (words from) i ∙ ap (mapped (targetAt from to rs)) (nth-placeIn (words from) w i e)))
 
 pub the-target : (r : Record) (j w : ℕ) (x : Joined) → j < r .«link_count» → Joins (tasksOf (r .tasks)) (linkAt (linksOf r) j) x
     → targetAt (x .from .params) (x .to .params) (x .rules .each) w ≡ target (planOf (shown r)) j w

@@ -65,16 +65,20 @@ link-back bs tasks d alike at x h =
     let same = same-rows rs qs (nc .3) in
     let two = join-parts (length tasks) e (nb .0) in
     let first = subst (λ p. Spells (bits bs) at (endsBits e) p) (nb .1) na in
-    let l : Link = record { ends = e; rules = rs } in
-    (l,
-     (record {
-       from-known = omega (arith, two .0, alike .long);
-       to-known = omega (arith, two .1, alike .long);
-       ruled = nc .1 ∙ alike .used (e .to);
-       rules = subst (λ k. All (RuleLimits k) rs) (alike .used (e .from)) (nc .2) },
-      two .2),
-     (λ i. (e, filledBy noRule (same i))) ∙ ap (λ q. linkRead (q .0)) whole,
-     subst (λ q. Spells (bits bs) at (linkBits l) (q .1)) whole (spells-then (bits bs) (endsBits e) (joined ruleBits rs) at (b .0 .1) (c .0 .1) first (nc .4)))
+    let l : Link = record { ends = e; rules = rs } in (
+      l,
+      (
+        record {
+          from-known = omega (arith, two .0, alike .long);
+          to-known = omega (arith, two .1, alike .long);
+          ruled = nc .1 ∙ alike .used (e .to);
+          rules = subst (λ k. All (RuleLimits k) rs) (alike .used (e .from)) (nc .2);
+        },
+        two .2,
+      ),
+      (λ i. (e, filledBy noRule (same i))) ∙ ap (λ q. linkRead (q .0)) whole,
+      subst (λ q. Spells (bits bs) at (linkBits l) (q .1)) whole (spells-then (bits bs) (endsBits e) (joined ruleBits rs) at (b .0 .1) (c .0 .1) first (nc .4)),
+    )
 
 pub padding-back : (bs : List ℕ) (at : ℕ) (x : Unit {0} × ℕ) → padding bs at ≡ Ok x → Spells (bits bs) at (replicate (toByteEnd at) 0) (x .1)
 padding-back bs at x h =
@@ -120,9 +124,12 @@ name-back bs at x h =
     let nb = times-back (bits bs) (letter bs) (digits 8) LetterLimits unseen unseen (letter-back bs) n (a .0 .1) (b .0) (b .1) in
     let two = and-parts (leb 1 n) (leb n 15) (na .0) in
     let ls = nb .0 in
-    let first = subst (λ n. Spells (bits bs) at (digits 8 n) (a .0 .1)) (sym (nb .1)) (na .2) in
-    (ls, record { named = omega (arith, nb .1, leb-true 1 n (two .0)); short = omega (arith, nb .1, leb-true n 15 (two .1)); letters = nb .2 }, refl,
-     subst (λ q. Spells (bits bs) at (lettersBits ls) (q .1)) whole (spells-then (bits bs) (digits 8 (length ls)) (joined (digits 8) ls) at (a .0 .1) (b .0 .1) first (nb .4)))
+    let first = subst (λ n. Spells (bits bs) at (digits 8 n) (a .0 .1)) (sym (nb .1)) (na .2) in (
+      ls,
+      record { named = omega (arith, nb .1, leb-true 1 n (two .0)); short = omega (arith, nb .1, leb-true n 15 (two .1)); letters = nb .2 },
+      refl,
+      subst (λ q. Spells (bits bs) at (lettersBits ls) (q .1)) whole (spells-then (bits bs) (digits 8 (length ls)) (joined (digits 8) ls) at (a .0 .1) (b .0 .1) first (nb .4)),
+    )
 
 -- the form and the counts
 abbrev pub countsBits : ℕ → ℕ → List ℕ
@@ -147,7 +154,8 @@ counts-back bs at x h =
     let nc = numberThat-back bs 7 (λ n. leb n 64) kind.Counts (b .0 .1) (c .0) (c .1) in
     let two = and-parts (leb 1 tasks) (leb tasks 32) (nb .0) in
     let first = subst (λ n. Spells (bits bs) at (digits 4 n) (a .0 .1)) (eqb-true (a .0 .0) 1 (na .0)) (na .2) in
-    subst (λ q. CountsLimits (q .0) × Spells (bits bs) at (countsBits (q .0 .tasks) (q .0 .links)) (q .1)) whole
-    (record { some = leb-true 1 tasks (two .0); few = leb-true tasks 32 (two .1); fewLinks = leb-true links 64 (nc .0) },
-     spells-then (bits bs) (digits 4 1) (digits 6 tasks ++ digits 7 links) at (a .0 .1) (c .0 .1) first
-     (spells-then (bits bs) (digits 6 tasks) (digits 7 links) (a .0 .1) (b .0 .1) (c .0 .1) (nb .2) (nc .2)))
+    subst (λ q. CountsLimits (q .0) × Spells (bits bs) at (countsBits (q .0 .tasks) (q .0 .links)) (q .1)) whole (
+      record { some = leb-true 1 tasks (two .0); few = leb-true tasks 32 (two .1); fewLinks = leb-true links 64 (nc .0) },
+      spells-then (bits bs) (digits 4 1) (digits 6 tasks ++ digits 7 links) at (a .0 .1) (c .0 .1) first
+          (spells-then (bits bs) (digits 6 tasks) (digits 7 links) (a .0 .1) (b .0 .1) (c .0 .1) (nb .2) (nc .2)),
+    )

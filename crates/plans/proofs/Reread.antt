@@ -75,10 +75,11 @@ module _ (bs : List ℕ) (d : Description) (limits : Limits d) (apart : Apart d)
       let l = times-forth s (link bs (t .0)) linkBits (LinkGood d) linkSeen linkRead each a b (d .links) good ls in
       let p = padding-forth bs b c fits pad in
       let n = times-forth s (name bs) nameBits TaskLimits unseen unseen (name-forth bs) c end (d .tasks) (limits .each-task) ns in
-      let q : Parts = record { tasks = t .0; links = l .0; names = n .0 } in
-      (q,
-       body-read bs bs bs bs (record { tasks = length (d .tasks); links = length (d .links) }) at a b c end (t .0) (l .0) (n .0) tt refl refl refl (t .1) (l .1) p (n .1),
-       parted-by q d same (l .2))
+      let q : Parts = record { tasks = t .0; links = l .0; names = n .0 } in (
+        q,
+        body-read bs bs bs bs (record { tasks = length (d .tasks); links = length (d .links) }) at a b c end (t .0) (l .0) (n .0) tt refl refl refl (t .1) (l .1) p (n .1),
+        parted-by q d same (l .2),
+      )
 
 pub written-reads : (bs : List ℕ) (d : Description) → bits bs ≡ written d → Limits d → Apart d → (q : Parts) × (fields bs ≡ Ok q) × Parted q d
 unfolding written
@@ -95,8 +96,9 @@ written-reads bs d w limits apart =
     let end = length s in
     let none : drop end s ≡ [] = drop-all end s (omega arith) in
     let whole : Spells s 0 (F ++ (P ++ N)) end = record {
-        here = w ∙ sym (append-nil (F ++ (P ++ N))) ∙ ap (λ r. (F ++ (P ++ N)) ++ r) (sym none);
-        ends = omega (arith, ap length w) } in
+      here = w ∙ sym (append-nil (F ++ (P ++ N))) ∙ ap (λ r. (F ++ (P ++ N)) ++ r) (sym none);
+      ends = omega (arith, ap length w);
+    } in
     let mid = 0 + length F in
     let place : length F ≡ mid = omega arith in
     let front = subst (λ p. Spells s 0 p mid) (sym (front-of d)) (spells-first s F (P ++ N) 0 end whole) in
@@ -107,8 +109,9 @@ written-reads bs d w limits apart =
     let fits : mid + toByteEnd mid ≤ end = omega (arith, ap length w, length-append F (P ++ N), length-append P N, length-replicate {A = ℕ} width 0, ap toByteEnd place) in
     let first = counts-forth bs 0 a n (record { some = limits .some-tasks; few = limits .few-tasks; fewLinks = limits .few-links }) (spells-first s C (T ++ L) 0 mid front) in
     let r = body-forth bs d limits apart a (a + length T) mid (mid + length P) end
-        (spells-first s T L a mid body) (spells-rest s T L a mid body) pad (spells-rest s P N mid end rest) fits in
-    let over = unless-from (eqb end (8 * length bs)) kind.Text end end (eq-eqb end (8 * length bs) (length-bits bs)) in
-    (r .0,
-     after-body bs bs bs 0 a end refl refl refl n (r .0) first (r .1) ∙ ap (λ u. onOk (onOk u (λ q. give (r .0) (q .1))) (λ r. Ok (r .0))) over,
-     r .2)
+    (spells-first s T L a mid body) (spells-rest s T L a mid body) pad (spells-rest s P N mid end rest) fits in
+    let over = unless-from (eqb end (8 * length bs)) kind.Text end end (eq-eqb end (8 * length bs) (length-bits bs)) in (
+      r .0,
+      after-body bs bs bs 0 a end refl refl refl n (r .0) first (r .1) ∙ ap (λ u. onOk (onOk u (λ q. give (r .0) (q .1))) (λ r. Ok (r .0))) over,
+      r .2,
+    )

@@ -52,11 +52,14 @@ param-back bs at x h =
     let nb = numberThat-back bs 8 (λ high. leb low high) kind.Params (a .0 .1) (b .0) (b .1) in
     let nc = number-back bs 1 (b .0 .1) (c .0) (c .1) in
     let down = cond (eqb n 1) 1 0 in
-    let last = subst (λ n. Spells (bits bs) (b .0 .1) (digits 1 n) (c .0 .1)) (flag-bit n (nc .0)) (nc .1) in
-    (p, (leb-true low high (nb .0), nb .1), ap (λ q. q .0) whole,
-     subst (λ q. Spells (bits bs) at (paramBits p) (q .1)) whole
-     (spells-then (bits bs) (digits 8 low) (digits 8 high ++ digits 1 down) at (a .0 .1) (c .0 .1) (na .1)
-     (spells-then (bits bs) (digits 8 high) (digits 1 down) (a .0 .1) (b .0 .1) (c .0 .1) (nb .2) last)))
+    let last = subst (λ n. Spells (bits bs) (b .0 .1) (digits 1 n) (c .0 .1)) (flag-bit n (nc .0)) (nc .1) in (
+      p,
+      (leb-true low high (nb .0), nb .1),
+      ap (λ q. q .0) whole,
+      subst (λ q. Spells (bits bs) at (paramBits p) (q .1)) whole
+          (spells-then (bits bs) (digits 8 low) (digits 8 high ++ digits 1 down) at (a .0 .1) (c .0 .1) (na .1)
+          (spells-then (bits bs) (digits 8 high) (digits 1 down) (a .0 .1) (b .0 .1) (c .0 .1) (nb .2) last)),
+    )
 
 -- the parameters of a task
 abbrev pub paramsBits : List Param → List ℕ
@@ -87,15 +90,18 @@ task-back bs at x h =
     let shown : shape ps ≡ record { each = filled qs; used = n } = λ i. record { each = filled (same i); used = nb .1 i } in
     let long = leb-true n 4 (na .0) in
     let most = leb-true (count (filled qs)) mostWords (nc .0) in
-    let first = subst (λ n. Spells (bits bs) at (digits 3 n) (a .0 .1)) (sym (nb .1)) (na .2) in
-    (ps, record { few = omega (arith, nb .1); ranges = nb .2; words = omega (arith, ap count same, count-filled (4 - length qs) qs) },
-     shown ∙ ap (λ q. q .0) whole,
-     subst (λ e. Spells (bits bs) at (paramsBits ps) e) end (spells-then (bits bs) (digits 3 (length ps)) (joined paramBits ps) at (a .0 .1) (b .0 .1) first (nb .4)))
+    let first = subst (λ n. Spells (bits bs) at (digits 3 n) (a .0 .1)) (sym (nb .1)) (na .2) in (
+      ps,
+      record { few = omega (arith, nb .1); ranges = nb .2; words = omega (arith, ap count same, count-filled (4 - length qs) qs) },
+      shown ∙ ap (λ q. q .0) whole,
+      subst (λ e. Spells (bits bs) at (paramsBits ps) e) end (spells-then (bits bs) (digits 3 (length ps)) (joined paramBits ps) at (a .0 .1) (b .0 .1) first (nb .4)),
+    )
 
 pub pick-from : (pick sources : ℕ) → (ltb pick sources || eqb pick 4) ≡ true → (pick < sources) ⊎ (pick ≡ 4)
 pick-from pick sources h = elim (or-cases (ltb pick sources) (eqb pick 4) h) [
-    inl t ↦ inl (ltb-true pick sources t)
-  | inr t ↦ inr (eqb-true pick 4 t) ]
+  | inl t ↦ inl (ltb-true pick sources t)
+  | inr t ↦ inr (eqb-true pick 4 t)
+]
 
 pub rule-back : (bs : List ℕ) (sources : ℕ) → Back (bits bs) (rule bs sources) ruleBits (RuleLimits sources) itself itself
 rule-back bs sources at x h =
@@ -113,12 +119,14 @@ rule-back bs sources at x h =
     let range = twos-range n (nb .0) in
     let some = ltb-true 0 divisor (nc .0) in
     let few = nc .1 in
-    let mid = subst (λ n. Spells (bits bs) (a .0 .1) (digits 9 n) (b .0 .1)) (sym (complement-twos n (nb .0))) (nb .1) in
-    (r, record { picks = pick-from pick sources (na .0); low = range .0; high = range .1; divides = some; divisor = omega arith },
-     ap (λ q. q .0) whole,
-     subst (λ q. Spells (bits bs) at (ruleBits r) (q .1)) whole
-     (spells-then (bits bs) (digits 3 pick) (digits 9 (complement 9 (twos 9 n)) ++ digits 4 divisor) at (a .0 .1) (c .0 .1) (na .2)
-     (spells-then (bits bs) (digits 9 (complement 9 (twos 9 n))) (digits 4 divisor) (a .0 .1) (b .0 .1) (c .0 .1) mid (nc .2))))
+    let mid = subst (λ n. Spells (bits bs) (a .0 .1) (digits 9 n) (b .0 .1)) (sym (complement-twos n (nb .0))) (nb .1) in (
+      r,
+      record { picks = pick-from pick sources (na .0); low = range .0; high = range .1; divides = some; divisor = omega arith },
+      ap (λ q. q .0) whole,
+      subst (λ q. Spells (bits bs) at (ruleBits r) (q .1)) whole
+          (spells-then (bits bs) (digits 3 pick) (digits 9 (complement 9 (twos 9 n)) ++ digits 4 divisor) at (a .0 .1) (c .0 .1) (na .2)
+          (spells-then (bits bs) (digits 9 (complement 9 (twos 9 n))) (digits 4 divisor) (a .0 .1) (b .0 .1) (c .0 .1) mid (nc .2))),
+    )
 
 pub ends-back : (bs : List ℕ) (at : ℕ) (x : Ends × ℕ) → ends bs at ≡ Ok x → Spells (bits bs) at (endsBits (x .0)) (x .1)
 ends-back bs at x h =

@@ -64,7 +64,7 @@ module _ (p : Plan) (k : Keeps p) where
   once (link l) (turn u r) h g a b = absurd (alone l h (ap (λ x. x .task) a ∙ sym (ap (λ x. x .task) b)))
   once (link l) (link m) h g a b =
       ap link (k .ends-differ l m (linkOf p l) (linkOf p m) (link-at p l h) (link-at p m g)
-        (λ i. record { from = a i .task; «from_side» = a i .side; to = b i .task; «to_side» = b i .side }))
+      (λ i. record { from = a i .task; «from_side» = a i .side; to = b i .task; «to_side» = b i .side }))
 
   -- where a target lands
   lands-at : (l i w : ℕ) → l < linkCount p → nth (linkOf p l .targets) i ≡ Some (Some w)
@@ -145,36 +145,42 @@ module _ (p : Plan) (k : Keeps p) where
 
   pub describes : Describes p
   describes = record {
-      within = record {
-        few-tasks = k .few-tasks;
-        few-words = k .few-words;
-        narrow = k .narrow;
-        few-links = k .few-links;
-        replies = λ l m e. k .links-keep l m e .replies };
-      ppo = record {
-        inhabited = λ t h. ((first t, (0, first-word t h)), tt);
-        known = known;
-        once = once;
-        typed = λ e vs ws h (v, w, isv, isw, g). (let y = typed e v w h g in (valuation-of p (leave e) v vs isv (y .0), valuation-of p (enter e) w ws isw (y .1)));
-        function = λ e vs ws us h (v, w, isv, isw, g) (x, u, isx, isu, f).
-            (let same = single-eq x v (sym isx ∙ isv) in
-            isw ∙ ap (λ y. y ∷ []) (function e v w u h g (subst (λ y. Given p e y u) same f)) ∙ sym isu);
-        begins = λ t h. (record { edge = turn t Start; has = h; from = refl; to = refl },
-            λ vs y. (let (v, is, at) = valuation-is p t vs y in (v, v, is, is, (at, refl)))) };
-      restricted = record {
-        apart = apart;
-        back = λ t h. record { edge = turn t Finish; has = h; from = refl; to = refl };
-        initial = λ t. first t ∷ [];
-        valued = λ t h. ((0, first-word t h), tt);
-        foremost = foremost;
-        alone = λ t ws _ y none. only t ws y none;
-        injective = λ t vs ws us _ m n. injective t vs ws us m n;
-        reachable = λ e vs ws h (v, w, isv, isw, g).
-            (let y = typed e v w h g in
-            subst (Upto (orderOf p) (leave e) (first (leave e) ∷ [])) (sym isv)
-              (upto p (leave e) 0 (y .0 .0) (first (leave e)) v (omega arith) (first-word (leave e) (known e h .0)) (y .0 .1)));
-        monotonic = λ e vs ws us h (n, s) (w, u, isw, isu, g).
-            (let at = typed e w u h g .0 in
-            let (v, isv, (i, here, on)) = walked p alone (k .differ) (leave e) n (at .0) w vs (subst (Steps (orderOf p) (leave e) n vs) isw s) (at .1) in
-            let (z, given, up) = monotonic e v w u i (at .0) h (omega arith) here (at .1) g in
-            (z ∷ [], (v, z, isv, refl, given), subst (Upto (orderOf p) (enter e) (z ∷ [])) (sym isu) up)) } }
+    within = record {
+      few-tasks = k .few-tasks;
+      few-words = k .few-words;
+      narrow = k .narrow;
+      few-links = k .few-links;
+      replies = λ l m e. k .links-keep l m e .replies;
+    };
+    ppo = record {
+      inhabited = λ t h. ((first t, (0, first-word t h)), tt);
+      known = known;
+      once = once;
+      typed = λ e vs ws h (v, w, isv, isw, g). (let y = typed e v w h g in (valuation-of p (leave e) v vs isv (y .0), valuation-of p (enter e) w ws isw (y .1)));
+      function = λ e vs ws us h (v, w, isv, isw, g) (x, u, isx, isu, f).
+          (let same = single-eq x v (sym isx ∙ isv) in
+          isw ∙ ap (λ y. y ∷ []) (function e v w u h g (subst (λ y. Given p e y u) same f)) ∙ sym isu);
+      begins = λ t h. (
+        record { edge = turn t Start; has = h; from = refl; to = refl },
+        λ vs y. (let (v, is, at) = valuation-is p t vs y in (v, v, is, is, (at, refl))),
+      );
+    };
+    restricted = record {
+      apart = apart;
+      back = λ t h. record { edge = turn t Finish; has = h; from = refl; to = refl };
+      initial = λ t. first t ∷ [];
+      valued = λ t h. ((0, first-word t h), tt);
+      foremost = foremost;
+      alone = λ t ws _ y none. only t ws y none;
+      injective = λ t vs ws us _ m n. injective t vs ws us m n;
+      reachable = λ e vs ws h (v, w, isv, isw, g).
+          (let y = typed e v w h g in
+          subst (Upto (orderOf p) (leave e) (first (leave e) ∷ [])) (sym isv)
+          (upto p (leave e) 0 (y .0 .0) (first (leave e)) v (omega arith) (first-word (leave e) (known e h .0)) (y .0 .1)));
+      monotonic = λ e vs ws us h (n, s) (w, u, isw, isu, g).
+          (let at = typed e w u h g .0 in
+          let (v, isv, (i, here, on)) = walked p alone (k .differ) (leave e) n (at .0) w vs (subst (Steps (orderOf p) (leave e) n vs) isw s) (at .1) in
+          let (z, given, up) = monotonic e v w u i (at .0) h (omega arith) here (at .1) g in
+          (z ∷ [], (v, z, isv, refl, given), subst (Upto (orderOf p) (enter e) (z ∷ [])) (sym isu) up));
+    };
+  }

@@ -35,10 +35,13 @@ module _ {A Y C : Type 0} (s : List ℕ) (m : Read A) (w : Y → List ℕ) (Good
       let b = onOk-ok (times n m (a .0 .1)) _ x (a .2) in
       let one = each at (a .0) (a .1) in
       let rest = times-back each n (a .0 .1) (b .0) (b .1) in
-      let whole = ok-is (a .0 .0 ∷ b .0 .0, b .0 .1) x (b .2) in
-      (one .0 ∷ rest .0, ap suc (rest .1), (one .1, rest .2),
-       (λ i. one .2 i ∷ rest .3 i) ∙ ap (λ q. map g (q .0)) whole,
-       subst (λ q. Spells s at (w (one .0) ++ joined w (rest .0)) (q .1)) whole (spells-then s (w (one .0)) (joined w (rest .0)) at (a .0 .1) (b .0 .1) (one .3) (rest .4)))
+      let whole = ok-is (a .0 .0 ∷ b .0 .0, b .0 .1) x (b .2) in (
+        one .0 ∷ rest .0,
+        ap suc (rest .1),
+        (one .1, rest .2),
+        (λ i. one .2 i ∷ rest .3 i) ∙ ap (λ q. map g (q .0)) whole,
+        subst (λ q. Spells s at (w (one .0) ++ joined w (rest .0)) (q .1)) whole (spells-then s (w (one .0)) (joined w (rest .0)) at (a .0 .1) (b .0 .1) (one .3) (rest .4)),
+      )
 
   pub times-forth : Forth s m w Good f g → (at end : ℕ) (ys : List Y) → All Good ys → Spells s at (joined w ys) end
       → (xs : List A) × (times (length ys) m at ≡ Ok (xs, end)) × (map f ys ≡ map g xs)

@@ -33,8 +33,9 @@ spells-none s at = record { here = refl; ends = omega arith }
 
 pub spells-then : (s p q : List ℕ) (at mid end : ℕ) → Spells s at p mid → Spells s mid q end → Spells s at (p ++ q) end
 spells-then s p q at mid end a b = record {
-    here = a .here ∙ ap (λ r. p ++ r) (b .here) ∙ sym (append-assoc p q (drop end s));
-    ends = omega (arith, a .ends, b .ends, length-append p q) }
+  here = a .here ∙ ap (λ r. p ++ r) (b .here) ∙ sym (append-assoc p q (drop end s));
+  ends = omega (arith, a .ends, b .ends, length-append p q);
+}
 
 module _ (s p q : List ℕ) (at end : ℕ) (whole : Spells s at (p ++ q) end) where
   spells-skip : drop (at + length p) s ≡ q ++ drop end s
@@ -54,18 +55,22 @@ onOk-from r f x y a b = ap (λ r. onOk r f) a ∙ b
 pub number-back : (bs : List ℕ) (width at : ℕ) (x : ℕ × ℕ) → number bs width at ≡ Ok x → (x .0 < 2 ^ width) × Spells (bits bs) at (digits width (x .0)) (x .1)
 number-back bs width at x h =
     elim (cases-bool (ltb (length (bits bs)) (at + width))) [
-      inl t ↦ absurd (let f = rw t at h in let z : _≡_ {A = ℕ} 0 1 = cc in omega arith)
-    | inr t ↦
-        (let ds = field bs at width in
-        let fits = ltb-false (length (bits bs)) (at + width) t in
-        let whole = ok-is (spelled ds, at + width) x (rw t at h) in
-        let low : Under 2 ds = all-take (λ d. d < 2) width (drop at (bits bs)) (all-drop (λ d. d < 2) at (bits bs) (under-bits bs)) in
-        let long : length ds ≡ width = length-take-le width (drop at (bits bs)) (omega (arith, length-drop at (bits bs))) in
-        let same = sym (digits-spelled width ds long low) in
-        subst (λ q. (q .0 < 2 ^ width) × Spells (bits bs) at (digits width (q .0)) (q .1)) whole
-        (field-lt bs at width, record {
-          here = sym (take-append-drop width (drop at (bits bs))) ∙ (λ i. same i ++ drop-drop width at (bits bs) i);
-          ends = omega (arith, length-digits width (spelled ds)) })) ]
+      | inl t ↦ absurd (let f = rw t at h in let z : _≡_ {A = ℕ} 0 1 = cc in omega arith)
+      | inr t ↦
+          (let ds = field bs at width in
+          let fits = ltb-false (length (bits bs)) (at + width) t in
+          let whole = ok-is (spelled ds, at + width) x (rw t at h) in
+          let low : Under 2 ds = all-take (λ d. d < 2) width (drop at (bits bs)) (all-drop (λ d. d < 2) at (bits bs) (under-bits bs)) in
+          let long : length ds ≡ width = length-take-le width (drop at (bits bs)) (omega (arith, length-drop at (bits bs))) in
+          let same = sym (digits-spelled width ds long low) in
+          subst (λ q. (q .0 < 2 ^ width) × Spells (bits bs) at (digits width (q .0)) (q .1)) whole (
+            field-lt bs at width,
+            record {
+              here = sym (take-append-drop width (drop at (bits bs))) ∙ (λ i. same i ++ drop-drop width at (bits bs) i);
+              ends = omega (arith, length-digits width (spelled ds));
+            },
+          ))
+    ]
 
 pub numberThat-back : (bs : List ℕ) (width : ℕ) (test : ℕ → Bool) (k : Kind) (at : ℕ) (x : ℕ × ℕ)
     → numberThat bs width test k at ≡ Ok x → (test (x .0) ≡ true) × (x .0 < 2 ^ width) × Spells (bits bs) at (digits width (x .0)) (x .1)
@@ -74,8 +79,9 @@ numberThat-back bs width test k at x h =
     let n = a .0 .0 in
     let is = number-back bs width at (a .0) (a .1) in
     elim (cases-bool (test n)) [
-      inl t ↦ (let whole = ok-is (n, a .0 .1) x (rw t at (a .2)) in subst (λ q. (test (q .0) ≡ true) × (q .0 < 2 ^ width) × Spells (bits bs) at (digits width (q .0)) (q .1)) whole (t, is .0, is .1))
-    | inr t ↦ absurd (let f = rw t at (a .2) in let z : _≡_ {A = ℕ} 0 1 = cc in omega arith) ]
+      | inl t ↦ (let whole = ok-is (n, a .0 .1) x (rw t at (a .2)) in subst (λ q. (test (q .0) ≡ true) × (q .0 < 2 ^ width) × Spells (bits bs) at (digits width (q .0)) (q .1)) whole (t, is .0, is .1))
+      | inr t ↦ absurd (let f = rw t at (a .2) in let z : _≡_ {A = ℕ} 0 1 = cc in omega arith)
+    ]
 
 -- and a number whose bits stand within the record is read
 fieldAt-forth : (bs : List ℕ) (width at end n : ℕ) → at + width ≤ length (bits bs) → n < 2 ^ width → Spells (bits bs) at (digits width n) end → fieldAt bs at width ≡ Ok n

@@ -64,7 +64,7 @@ digit-step ps vs place rest k j s v d ej hp hv es ev er et =
     let quotient : rest / s ≡ place / (c * s) = ap (λ n. n / s) er′ ∙ div-div-eq-div-mul place c s in
     let unit : c * s ≡ count (drop k ps) = mul-comm c s ∙ ap (λ n. n * c) es ∙ sym (count-step ps k d hp) in
     let here : tupleAt (drop k ps) place ≡ valueAt (getD ps k d) (place / c % size (getD ps k d)) ∷ tupleAt (drop (k + 1) ps) place =
-        at-drop-more (λ xs. tupleAt xs place) ps k d hp in
+    at-drop-more (λ xs. tupleAt xs place) ps k d hp in
     (quotient ∙ ap (λ n. place / n) unit, drop-set vs k v hv ∙ rw (here, ev, er′, es, et′))
 
 -- there is room for one turn more of a parameter
@@ -73,7 +73,7 @@ pub room-step : (ps : List Param) (i : ℕ) (d : Param) (acc s : ℕ) → 0 < co
 room-step ps i d acc s some h es e =
     let c = count (drop (i + 1) ps) in
     let all : (acc + 1) * s * c ≡ (acc + 1) * count (drop i ps) =
-        mul-assoc (acc + 1) s c ∙ ap (λ n. (acc + 1) * n) (ap (λ n. n * c) es ∙ sym (count-step ps i d h)) in
+    mul-assoc (acc + 1) s c ∙ ap (λ n. (acc + 1) * n) (ap (λ n. n * c) es ∙ sym (count-step ps i d h)) in
     (omega arith, omega (arith, factor ((acc + 1) * s) c (count ps) (some-left ps (i + 1) some) (omega arith), add-mul acc 1 s))
 
 pub place-step : (ps : List Param) (vs : List ℕ) (i : ℕ) (d : Param) (acc : ℕ) → i < length ps → i < length vs

@@ -27,10 +27,11 @@ pub nth-values : (p : Param) (t : ℕ) → t < size p → nth (values p) t ≡ S
 nth-values p t h =
     let up = counting (p .low) (size p) in
     let n : length up ≡ size p = length-counting (p .low) (size p) in
-    elim (p .down) as (λ b. nth (cond b (reverse up) up) t ≡ Some (cond b (p .high - t) (p .low + t)))
-    [ true ↦ nth-getD (reverse up) t 0 (omega (arith, length-reverse up))
-        ∙ ap Some (getD-reverse up t 0 (omega arith) ∙ getD-counting (p .low) (size p) (length up - 1 - t) 0 (omega arith) ∙ omega (arith))
-    | false ↦ nth-getD up t 0 (omega arith) ∙ ap Some (getD-counting (p .low) (size p) t 0 h) ]
+    elim (p .down) as (λ b. nth (cond b (reverse up) up) t ≡ Some (cond b (p .high - t) (p .low + t))) [
+      | true ↦ nth-getD (reverse up) t 0 (omega (arith, length-reverse up))
+          ∙ ap Some (getD-reverse up t 0 (omega arith) ∙ getD-counting (p .low) (size p) (length up - 1 - t) 0 (omega arith) ∙ omega (arith))
+      | false ↦ nth-getD up t 0 (omega arith) ∙ ap Some (getD-counting (p .low) (size p) t 0 h)
+    ]
 
 pub turn-of-value : (p : Param) (t : ℕ) → t < size p → turnOf p (valueAt p t) ≡ Some t
 turn-of-value p t h = grind (arith, tells)

@@ -59,9 +59,9 @@ name-once t u r s a b e =
     let x = digits-once 8 (length ps) (length qs) (joined (digits 8) ps ++ r) (joined (digits 8) qs ++ s) (omega arith) (omega arith) f in
     let y = joined-once (digits 8) LetterLimits itself letter-once ps qs r s (x .0) (a .letters) (b .letters) (x .1) in
     (same-rows ps qs (y .0), y .1)
-    where
-      letter-once : Once (digits 8) LetterLimits itself
-      letter-once m n r s a b e = let high = a .1 in let higher = b .1 in digits-once 8 m n r s (omega arith) (omega arith) e
+  where
+    letter-once : Once (digits 8) LetterLimits itself
+    letter-once m n r s a b e = let high = a .1 in let higher = b .1 in digits-once 8 m n r s (omega arith) (omega arith) e
 
 -- the numbers of a rule and of a link fit their fields
 record RuleFits (r : Rule) : Type 0 where
@@ -78,7 +78,7 @@ rule-once p q r s a b e =
     let f = simp append-assoc at e in
     let x = digits-once 3 (p .pick) (q .pick) (digits 9 (c p) ++ (digits 4 (p .divisor) ++ r)) (digits 9 (c q) ++ (digits 4 (q .divisor) ++ s)) (a .pick) (b .pick) f in
     let y = digits-once 9 (c p) (c q) (digits 4 (p .divisor) ++ r) (digits 4 (q .divisor) ++ s)
-        (complement-small (p .add) (a .low) (a .high)) (complement-small (q .add) (b .low) (b .high)) (x .1) in
+    (complement-small (p .add) (a .low) (a .high)) (complement-small (q .add) (b .low) (b .high)) (x .1) in
     let z = digits-once 4 (p .divisor) (q .divisor) r s (omega arith) (omega arith) (y .1) in
     let add = sym (twos-complement (p .add) (a .low) (a .high)) ∙ ap (twos 9) (y .0) ∙ twos-complement (q .add) (b .low) (b .high) in
     ((λ i. record { pick = x .0 i; add = add i; divisor = z .0 i }), z .1)
@@ -120,19 +120,20 @@ params-at (u ∷ us) (suc t) = params-at us t
 
 links-fit : (d : Description) (pss : List (List Param)) → map (λ t. t .params) (d .tasks) ≡ pss → Limits d → All (LinkFits (λ t. length (getD pss t []))) (d .links)
 links-fit d pss same limits = all-weaker (LinkLimits d) (LinkFits (λ t. length (getD pss t []))) fit (d .links) (limits .each-link)
-    where
-      fit : (l : Link) → LinkLimits d l → LinkFits (λ t. length (getD pss t [])) l
-      fit l h =
-          let few = limits .few-tasks in
-          let from = h .from-known in
-          let to = h .to-known in
-          let sources = length (taskAt d (l .ends .from) .params) in
-          let most = params-few (d .tasks) (limits .each-task) (l .ends .from) in
-          record {
-            ends = (omega arith, omega arith);
-            ruled = h .ruled ∙ params-at (d .tasks) (l .ends .to) ∙ ap (λ ps. length (getD ps (l .ends .to) [])) same;
-            rules = all-weaker (RuleLimits sources) RuleFits
-                (λ r g. record { pick = pick-small (r .pick) sources most (g .picks); low = g .low; high = g .high; divisor = g .divisor }) (l .rules) (h .rules) }
+  where
+    fit : (l : Link) → LinkLimits d l → LinkFits (λ t. length (getD pss t [])) l
+    fit l h =
+        let few = limits .few-tasks in
+        let from = h .from-known in
+        let to = h .to-known in
+        let sources = length (taskAt d (l .ends .from) .params) in
+        let most = params-few (d .tasks) (limits .each-task) (l .ends .from) in
+        record {
+          ends = (omega arith, omega arith);
+          ruled = h .ruled ∙ params-at (d .tasks) (l .ends .to) ∙ ap (λ ps. length (getD ps (l .ends .to) [])) same;
+          rules = all-weaker (RuleLimits sources) RuleFits
+              (λ r g. record { pick = pick-small (r .pick) sources most (g .picks); low = g .low; high = g .high; divisor = g .divisor }) (l .rules) (h .rules);
+        }
 
 tasks-same : (ts us : List Task) → length ts ≡ length us → map (λ t. t .params) ts ≡ map (λ t. t .params) us → map (λ t. t .name) ts ≡ map (λ t. t .name) us → ts ≡ us
 tasks-same [] [] long a b = refl
@@ -174,7 +175,7 @@ written-once d e same dl el =
     let k = λ (t : ℕ). length (getD pss t []) in
     let x4 = joined-once linkBits (LinkFits k) itself (link-once k) (d .links) (e .links) dr er (x2 .0) (links-fit d pss (x3 .0) dl) (links-fit e pss refl el) (x3 .1) in
     let long : length (frontBits d) ≡ length (frontBits e) =
-        omega (arith, ap length same, ap length (x4 .1), length-append (frontBits d) dr, length-append (frontBits e) er) in
+    omega (arith, ap length same, ap length (x4 .1), length-append (frontBits d) dr, length-append (frontBits e) er) in
     let padded : pad d ≡ pad e = ap (λ n. replicate (toByteEnd n) 0) long in
     let left = append-cancel-left (pad d) (names d) (names e) (x4 .1 ∙ ap (λ p. p ++ names e) (sym padded)) in
     let x5 = joined-once nameBits TaskLimits (λ t. t .name) name-once (d .tasks) (e .tasks) [] [] (x1 .0) (dl .each-task) (el .each-task) (append-nil (names d) ∙ left ∙ sym (append-nil (names e))) in

@@ -97,7 +97,7 @@ pub values-told : (ps : List Param) (v : List ℕ) → length ps ≤ 4 → All R
 values-told ps v few r h =
     ap valuesOf (filled-word ps v h)
     ∙ valuesOf-wordOf (v ++ zeros ps) (omega (arith, length-append v (zeros ps), length-replicate {A = ℕ} (4 - length ps) 0, valued-length ps v h))
-      (all-append (λ d. d < base) v (zeros ps) (valued-under ps v r h) (zeros-under (4 - length ps)))
+    (all-append (λ d. d < base) v (zeros ps) (valued-under ps v r h) (zeros-under (4 - length ps)))
 
 pub word-told : (ps : List Param) (v : List ℕ) → length ps ≤ 4 → All Range ps → Valued (domainsOf ps) v → take (length ps) (valuesOf (wordFor v)) ≡ v
 word-told ps v few r h = ap (take (length ps)) (values-told ps v few r h) ∙ take-at v (zeros ps) (length ps) (valued-length ps v h)
@@ -148,12 +148,13 @@ range-in : (p : Param) (z : ℤ) (n : ℕ) → inRange p z ≡ Some n → (z ≡
 range-in p (negsuc m) n e = absurd (let z : _≡_ {A = ℕ} 0 1 = cc in omega arith)
 range-in p (pos m) n e =
     elim (cases-bool (ltb m (p .low) || ltb (p .high) m)) [
-      inl t ↦ absurd (let f = rw t at e in let z : _≡_ {A = ℕ} 0 1 = cc in omega arith)
-    | inr t ↦
-        (let f = rw t at e in
-        let same : m ≡ n = cc in
-        let u = or-parts (ltb m (p .low)) (ltb (p .high) m) t in
-        (ap pos same, (omega (arith, ltb-false m (p .low) (u .0)), omega (arith, ltb-false (p .high) m (u .1))))) ]
+      | inl t ↦ absurd (let f = rw t at e in let z : _≡_ {A = ℕ} 0 1 = cc in omega arith)
+      | inr t ↦
+          (let f = rw t at e in
+          let same : m ≡ n = cc in
+          let u = or-parts (ltb m (p .low)) (ltb (p .high) m) t in
+          (ap pos same, (omega (arith, ltb-false m (p .low) (u .0)), omega (arith, ltb-false (p .high) m (u .1)))))
+    ]
 
 no-value : (vs : List ℕ) → valueFor noRule noParam vs ≡ Some 0
 no-value vs = ap (inRange noParam) (quotient-pos 0 1)

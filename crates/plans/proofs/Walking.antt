@@ -32,8 +32,8 @@ start-end e = let z : _≡_ {A = ℕ} 0 1 = cc in omega arith
 pub word-known : (p : Plan) (t i w : ℕ) → wordAt p t i ≡ Some w → t < taskCount p
 word-known p t i w e =
     ⊎-elim (λ below. below)
-      (λ above. absurd (none-some w (sym (ap (λ ws. nth ws i) (getD-past (p .tasks) t [] above)) ∙ e)))
-      (cases-lt t (taskCount p))
+    (λ above. absurd (none-some w (sym (ap (λ ws. nth ws i) (getD-past (p .tasks) t [] above)) ∙ e)))
+    (cases-lt t (taskCount p))
 
 -- the word at a place
 pub word-at : (p : Plan) (t i : ℕ) → i < length (wordsOf p t) → wordAt p t i ≡ Some (getD (wordsOf p t) i 0)
@@ -78,12 +78,12 @@ Differ p = (t i j w : ℕ) → wordAt p t i ≡ Some w → wordAt p t j ≡ Some
 
 pub next-is : (p : Plan) → Alone p → (t : ℕ) (vs ws : List ℕ) → Next (orderOf p) t vs ws → Single (Turns p t Finish) vs ws
 next-is p alone t vs ws (j, s) = by (j .edge) (j .has) (j .from) (j .to) s
-    where
-      by : (e : Edge) → Has (taskCount p) (linkCount p) e → leaves (λ l. linkOf p l .ends) e ≡ end t → enters (λ l. linkOf p l .ends) e ≡ start t
-          → Single (Given p e) vs ws → Single (Turns p t Finish) vs ws
-      by (turn u Start) h f g s = absurd (start-end (ap (λ x. x .side) f))
-      by (turn u Finish) h f g s = subst (λ x. Single (Turns p x Finish) vs ws) (ap (λ x. x .task) f) s
-      by (link l) h f g s = absurd (alone l h (ap (λ x. x .task) f ∙ sym (ap (λ x. x .task) g)))
+  where
+    by : (e : Edge) → Has (taskCount p) (linkCount p) e → leaves (λ l. linkOf p l .ends) e ≡ end t → enters (λ l. linkOf p l .ends) e ≡ start t
+        → Single (Given p e) vs ws → Single (Turns p t Finish) vs ws
+    by (turn u Start) h f g s = absurd (start-end (ap (λ x. x .side) f))
+    by (turn u Finish) h f g s = subst (λ x. Single (Turns p x Finish) vs ws) (ap (λ x. x .task) f) s
+    by (link l) h f g s = absurd (alone l h (ap (λ x. x .task) f ∙ sym (ap (λ x. x .task) g)))
 
 -- the place of the word that a walk sets out from
 pub walked : (p : Plan) → Alone p → Differ p → (t n j w : ℕ) (vs : List ℕ) → Steps (orderOf p) t n vs (w ∷ []) → wordAt p t j ≡ Some w

@@ -55,9 +55,10 @@ pub under-tupleAt : (ps : List Param) (i : ℕ) → Bytes ps → 0 < count ps �
 unfolding count
 under-tupleAt [] i bytes some = tt
 under-tupleAt (p ∷ ps) i bytes some =
-    let b = and-parts (ltb (p .high) base) (holdBytes ps) bytes in
-    (value-byte p (i / count ps % size p) (ltb-true (p .high) base (b .0)) (mod-lt (i / count ps) (left-positive (size p) (count ps) some)),
-     under-tupleAt ps i (b .1) (right-positive (size p) (count ps) some))
+    let b = and-parts (ltb (p .high) base) (holdBytes ps) bytes in (
+      value-byte p (i / count ps % size p) (ltb-true (p .high) base (b .0)) (mod-lt (i / count ps) (left-positive (size p) (count ps) some)),
+      under-tupleAt ps i (b .1) (right-positive (size p) (count ps) some),
+    )
 
 pub valuesOf-wordOf : (vs : List ℕ) → length vs ≡ 4 → Under base vs → valuesOf (wordOf vs) ≡ vs
 valuesOf-wordOf [] e u = absurd (omega arith)
@@ -77,19 +78,19 @@ pub place-words : (ps : List Param) (w : ℕ) → length ps ≡ 4 → Bytes ps �
 place-words ps w four bytes small =
     placeIn-is (words ps) w (placeFrom 0 ps (valuesOf w))
     (λ i e.
-        let t = tuple-of-place 0 ps (valuesOf w) i e in
-        let same : i ≡ t .0 = omega (arith, t .2) in
-        rw same (nth-words ps (t .0) (t .1) ∙ ap Some (ap wordOf (sym (t .3)) ∙ wordOf-valuesOf w small)))
+    let t = tuple-of-place 0 ps (valuesOf w) i e in
+    let same : i ≡ t .0 = omega (arith, t .2) in
+    rw same (nth-words ps (t .0) (t .1) ∙ ap Some (ap wordOf (sym (t .3)) ∙ wordOf-valuesOf w small)))
     (λ i e.
-        let h : i < count ps = omega (arith, nth-within (words ps) i w e, length-words ps) in
-        let is : wordOf (tupleAt ps i) ≡ w = (let n = nth-words ps i h in cc) in
-        let vs : valuesOf w ≡ tupleAt ps i = ap valuesOf (sym is) ∙ valuesOf-wordOf (tupleAt ps i) (length-tupleAt ps i ∙ four) (under-tupleAt ps i bytes (omega arith)) in
-        rw vs (place-of-tuple 0 ps i h ∙ ap Some (omega arith)))
+    let h : i < count ps = omega (arith, nth-within (words ps) i w e, length-words ps) in
+    let is : wordOf (tupleAt ps i) ≡ w = (let n = nth-words ps i h in cc) in
+    let vs : valuesOf w ≡ tupleAt ps i = ap valuesOf (sym is) ∙ valuesOf-wordOf (tupleAt ps i) (length-tupleAt ps i ∙ four) (under-tupleAt ps i bytes (omega arith)) in
+    rw vs (place-of-tuple 0 ps i h ∙ ap Some (omega arith)))
 
 pub words-differ : (ps : List Param) → length ps ≡ 4 → Bytes ps → (i j w : ℕ) → nth (words ps) i ≡ Some w → nth (words ps) j ≡ Some w → i ≡ j
 words-differ ps four bytes i j w ei ej =
     let at : (k : ℕ) → nth (words ps) k ≡ Some w → placeFrom 0 ps (tupleAt ps k) ≡ Some k =
-        λ k e. place-of-tuple 0 ps k (omega (arith, nth-within (words ps) k w e, length-words ps)) ∙ ap Some (omega arith) in
+    λ k e. place-of-tuple 0 ps k (omega (arith, nth-within (words ps) k w e, length-words ps)) ∙ ap Some (omega arith) in
     let hi : i < count ps = omega (arith, nth-within (words ps) i w ei, length-words ps) in
     let hj : j < count ps = omega (arith, nth-within (words ps) j w ej, length-words ps) in
     let ni = nth-words ps i hi in

@@ -46,13 +46,16 @@ tasked (ps ∷ pss) (ns ∷ nss) long a b =
     let rest = tasked pss nss (omega arith) (a .1) (b .1) in
     let t : Task = record { params = ps; name = ns } in
     let p = a .0 in
-    let n = b .0 in
-    (t ∷ rest .0, record {
-      long = ap suc (rest .1 .long);
-      fronts = ap (λ r. paramsBits ps ++ r) (rest .1 .fronts);
-      names = ap (λ r. lettersBits ns ++ r) (rest .1 .names);
-      shapes = ap (λ r. shape ps ∷ r) (rest .1 .shapes);
-      limits = (record { few-params = p .few; ranges = p .ranges; few-words = p .words; named = n .named; short = n .short; letters = n .letters }, rest .1 .limits) })
+    let n = b .0 in (
+      t ∷ rest .0,
+      record {
+        long = ap suc (rest .1 .long);
+        fronts = ap (λ r. paramsBits ps ++ r) (rest .1 .fronts);
+        names = ap (λ r. lettersBits ns ++ r) (rest .1 .names);
+        shapes = ap (λ r. shape ps ∷ r) (rest .1 .shapes);
+        limits = (record { few-params = p .few; ranges = p .ranges; few-words = p .words; named = n .named; short = n .short; letters = n .letters }, rest .1 .limits);
+      },
+    )
 
 -- the tasks that are read have as many parameters as the tasks that were written
 used-at : (us : List Task) (t : ℕ) → taskOf (map shaped us) t .used ≡ length (getD us t (record { params = []; name = [] }) .params)
@@ -62,8 +65,9 @@ used-at (u ∷ us) (suc t) = used-at us t
 
 pub alike : (ts : List Params) (d : Description) → ts ≡ map shaped (d .tasks) → Alike ts d
 alike ts d same = record {
-    long = ap length same ∙ length-map (d .tasks) shaped;
-    used = λ t. ap (λ ts. taskOf ts t .used) same ∙ used-at (d .tasks) t }
+  long = ap length same ∙ length-map (d .tasks) shaped;
+  used = λ t. ap (λ ts. taskOf ts t .used) same ∙ used-at (d .tasks) t;
+}
 
 -- a link's limits hang on the tasks alone
 relimit : (ts : List Task) (ks ls : List Link) (l : Link) → LinkLimits (record { tasks = ts; links = ks }) l → LinkLimits (record { tasks = ts; links = ls }) l
@@ -71,22 +75,26 @@ relimit ts ks ls l h = record { from-known = h .from-known; to-known = h .to-kno
 
 pub parted-by : (q : Parts) (d : Description) → q .tasks ≡ map shaped (d .tasks) → map linkSeen (d .links) ≡ map linkRead (q .links) → Parted q d
 parted-by q d ts ls = record {
-    tasks = ts;
-    ends = read-ends (q .links) ∙ ap (map (λ (r : Ends × List Rule). r .0)) (sym ls) ∙ sym (seen-ends (d .links));
-    rules = read-rules (q .links) ∙ ap (map (λ (r : Ends × List Rule). r .1)) (sym ls) ∙ sym (seen-rules (d .links)) }
-    where
-      read-ends : (ls : List shapes.Link) → map (λ l. l .ends) ls ≡ map (λ (r : Ends × List Rule). r .0) (map linkRead ls)
-      read-ends [] = refl
-      read-ends (l ∷ ls) = ap (λ r. l .ends ∷ r) (read-ends ls)
-      read-rules : (ls : List shapes.Link) → map (λ l. l .rules) ls ≡ map (λ (r : Ends × List Rule). r .1) (map linkRead ls)
-      read-rules [] = refl
-      read-rules (l ∷ ls) = ap (λ r. l .rules ∷ r) (read-rules ls)
-      seen-ends : (ls : List Link) → map (λ l. l .ends) ls ≡ map (λ (r : Ends × List Rule). r .0) (map linkSeen ls)
-      seen-ends [] = refl
-      seen-ends (l ∷ ls) = ap (λ r. l .ends ∷ r) (seen-ends ls)
-      seen-rules : (ls : List Link) → map (λ l. filledBy noRule (l .rules)) ls ≡ map (λ (r : Ends × List Rule). r .1) (map linkSeen ls)
-      seen-rules [] = refl
-      seen-rules (l ∷ ls) = ap (λ r. filledBy noRule (l .rules) ∷ r) (seen-rules ls)
+  tasks = ts;
+  ends = read-ends (q .links) ∙ ap (map (λ (r : Ends × List Rule). r .0)) (sym ls) ∙ sym (seen-ends (d .links));
+  rules = read-rules (q .links) ∙ ap (map (λ (r : Ends × List Rule). r .1)) (sym ls) ∙ sym (seen-rules (d .links));
+}
+  where
+    read-ends : (ls : List shapes.Link) → map (λ l. l .ends) ls ≡ map (λ (r : Ends × List Rule). r .0) (map linkRead ls)
+    read-ends [] = refl
+    read-ends (l ∷ ls) = ap (λ r. l .ends ∷ r) (read-ends ls)
+
+    read-rules : (ls : List shapes.Link) → map (λ l. l .rules) ls ≡ map (λ (r : Ends × List Rule). r .1) (map linkRead ls)
+    read-rules [] = refl
+    read-rules (l ∷ ls) = ap (λ r. l .rules ∷ r) (read-rules ls)
+
+    seen-ends : (ls : List Link) → map (λ l. l .ends) ls ≡ map (λ (r : Ends × List Rule). r .0) (map linkSeen ls)
+    seen-ends [] = refl
+    seen-ends (l ∷ ls) = ap (λ r. l .ends ∷ r) (seen-ends ls)
+
+    seen-rules : (ls : List Link) → map (λ l. filledBy noRule (l .rules)) ls ≡ map (λ (r : Ends × List Rule). r .1) (map linkSeen ls)
+    seen-rules [] = refl
+    seen-rules (l ∷ ls) = ap (λ r. filledBy noRule (l .rules) ∷ r) (seen-rules ls)
 
 -- what the body of a record says, from a place to another
 record Bodied (s : List ℕ) (n : Counts) (at : ℕ) (q : Parts) (end : ℕ) (d : Description) : Type 0 where
@@ -118,17 +126,20 @@ body-back bs n at x h =
     let d : Description = record { tasks = us .0; links = nb .0 } in
     let pad = padding-back bs (b .0 .1) (c .0) (c .1) in
     let first = subst (λ p. Spells s at p (a .0 .1)) (sym (us .1 .fronts)) (na .4) in
-    let last = subst (λ p. Spells s (c .0 .1) p (e .0 .1)) (sym (us .1 .names)) (ne .4) in
-    (d, subst (λ q. Bodied s n at (q .0) (q .1) d) whole (record {
-      tasks = us .1 .long ∙ na .1;
-      links = nb .1;
-      each-task = us .1 .limits;
-      each-link = all-weaker (LinkGood d0) (LinkLimits d) (λ l g. relimit (us .0) [] (nb .0) l (g .0)) (nb .0) (nb .2);
-      apart = all-weaker (LinkGood d0) (λ l. l .ends .from ≡ l .ends .to → ⊥) (λ l g. g .1) (nb .0) (nb .2);
-      parted = parted-by (record { tasks = ts; links = b .0 .0; names = e .0 .0 }) d same (nb .3);
-      mid = b .0 .1;
-      front = spells-then s (joined taskBits (us .0)) (joined linkBits (nb .0)) at (a .0 .1) (b .0 .1) first (nb .4);
-      rest = spells-then s (replicate (toByteEnd (b .0 .1)) 0) (joined nameBits (us .0)) (b .0 .1) (c .0 .1) (e .0 .1) pad last }))
+    let last = subst (λ p. Spells s (c .0 .1) p (e .0 .1)) (sym (us .1 .names)) (ne .4) in (
+      d,
+      subst (λ q. Bodied s n at (q .0) (q .1) d) whole (record {
+        tasks = us .1 .long ∙ na .1;
+        links = nb .1;
+        each-task = us .1 .limits;
+        each-link = all-weaker (LinkGood d0) (LinkLimits d) (λ l g. relimit (us .0) [] (nb .0) l (g .0)) (nb .0) (nb .2);
+        apart = all-weaker (LinkGood d0) (λ l. l .ends .from ≡ l .ends .to → ⊥) (λ l g. g .1) (nb .0) (nb .2);
+        parted = parted-by (record { tasks = ts; links = b .0 .0; names = e .0 .0 }) d same (nb .3);
+        mid = b .0 .1;
+        front = spells-then s (joined taskBits (us .0)) (joined linkBits (nb .0)) at (a .0 .1) (b .0 .1) first (nb .4);
+        rest = spells-then s (replicate (toByteEnd (b .0 .1)) 0) (joined nameBits (us .0)) (b .0 .1) (c .0 .1) (e .0 .1) pad last;
+      }),
+    )
 
 -- the counts, the tasks and the links are the front
 pub front-of : (d : Description) → countsBits (length (d .tasks)) (length (d .links)) ++ (joined taskBits (d .tasks) ++ joined linkBits (d .links)) ≡ frontBits d
@@ -165,14 +176,16 @@ read-writes bs q h =
     let n = c .0 .0 in
     let k = nc .0 in
     let first : Spells (bits bs) 0 (countsBits (length (d .tasks)) (length (d .links))) (c .0 .1) =
-        (let t = sym (f .tasks) in let l = sym (f .links) in subst (λ p. Spells (bits bs) 0 p (c .0 .1)) (λ i. countsBits (t i) (l i)) (nc .1)) in
-    (d,
-     whole-written bs d (c .0 .1) (f .mid) (b .0 .1) first (f .front) (f .rest) (eqb-true (b .0 .1) (8 * length bs) (ne .0)),
-     record {
-       some-tasks = omega (arith, k .some, f .tasks);
-       few-tasks = omega (arith, f .tasks);
-       few-links = omega (arith, k .fewLinks, f .links);
-       each-task = f .each-task;
-       each-link = f .each-link },
-     f .apart,
-     subst (λ q. Parted q d) out (f .parted))
+    (let t = sym (f .tasks) in let l = sym (f .links) in subst (λ p. Spells (bits bs) 0 p (c .0 .1)) (λ i. countsBits (t i) (l i)) (nc .1)) in (
+      d,
+      whole-written bs d (c .0 .1) (f .mid) (b .0 .1) first (f .front) (f .rest) (eqb-true (b .0 .1) (8 * length bs) (ne .0)),
+      record {
+        some-tasks = omega (arith, k .some, f .tasks);
+        few-tasks = omega (arith, f .tasks);
+        few-links = omega (arith, k .fewLinks, f .links);
+        each-task = f .each-task;
+        each-link = f .each-link;
+      },
+      f .apart,
+      subst (λ q. Parted q d) out (f .parted),
+    )

@@ -102,7 +102,8 @@ module _ (d : Description) (q : Parts) (lim : Limits d) (part : Parted q d) wher
   replies k =
       record {
         ends = k .ends;
-        targets = map (targetAt (filled (params d (k .ends .from))) (filled (params d (k .ends .to))) (filledBy noRule (k .rules))) (words (filled (params d (k .ends .from)))) }
+        targets = map (targetAt (filled (params d (k .ends .from))) (filled (params d (k .ends .to))) (filledBy noRule (k .rules))) (words (filled (params d (k .ends .from))));
+      }
 
   link-is : (l : ℕ) → l < length (d .links) → linkOf plan l ≡ replies (linkAt d l)
   link-is l h =
@@ -112,8 +113,8 @@ module _ (d : Description) (q : Parts) (lim : Limits d) (part : Parted q d) wher
       let is : linkOf plan l ≡ planLink (q .tasks) x = getD-map (planLink (q .tasks)) (q .links) l noLink noReply here in
       let E : x .ends ≡ k .ends = sym (ap (λ y. y .ends) is) ∙ sym (ends-at l) in
       let R : x .rules ≡ filledBy noRule (k .rules) =
-          sym (getD-map (λ y. y .rules) (q .links) l noLink [] here) ∙ ap (λ rs. getD rs l []) (part .rules)
-          ∙ getD-map (λ y. filledBy noRule (y .rules)) (d .links) l noLinkAt [] h in
+      sym (getD-map (λ y. y .rules) (q .links) l noLink [] here) ∙ ap (λ rs. getD rs l []) (part .rules)
+      ∙ getD-map (λ y. filledBy noRule (y .rules)) (d .links) l noLinkAt [] h in
       let F : taskOf (q .tasks) (x .ends .from) .each ≡ filled (params d (k .ends .from)) = ap (λ e. taskOf (q .tasks) (e .from) .each) E ∙ params-at (k .ends .from) (limits d lim l h .from-known) in
       let T : taskOf (q .tasks) (x .ends .to) .each ≡ filled (params d (k .ends .to)) = ap (λ e. taskOf (q .tasks) (e .to) .each) E ∙ params-at (k .ends .to) (limits d lim l h .to-known) in
       is ∙ (λ i. record { ends = E i; targets = map (targetAt (F i) (T i) (R i)) (words (F i)) })
@@ -167,6 +168,6 @@ module _ (d : Description) (q : Parts) (lim : Limits d) (part : Parted q d) wher
       let hit : Some (f n) ≡ Some (Some m) = sym (nth-map f (words (filled (params d s))) (g .0) ∙ ap (mapped f) (reply-at s (g .0) n (b .from-known) (g .1))) ∙ g .2 in
       let w = given-target (params d s) (params d t) (k .rules) (few d lim s (b .from-known)) (ranges d lim s (b .from-known)) (b .ruled) (v .0) m val (ap f (v .2) ∙ some-is (f n) (Some m) hit) in
       (v .0, w .0, (val, w .1, w .2), v .2, w .3)
-      where
-        some-is : (x y : Option ℕ) → Some x ≡ Some y → x ≡ y
-        some-is x y e = cc
+    where
+      some-is : (x y : Option ℕ) → Some x ≡ Some y → x ≡ y
+      some-is x y e = cc

@@ -20,7 +20,8 @@ abbrev pub planLink : List Params → shape.Link → Link
 planLink ts l =
     record {
       ends = l .ends;
-      targets = map (targetAt (taskOf ts (l .ends .from) .each) (taskOf ts (l .ends .to) .each) (l .rules)) (words (taskOf ts (l .ends .from) .each)) }
+      targets = map (targetAt (taskOf ts (l .ends .from) .each) (taskOf ts (l .ends .to) .each) (l .rules)) (words (taskOf ts (l .ends .from) .each));
+    }
 
 abbrev pub planOf : Parts → Plan
 planOf p = record { tasks = map taskWords (p .tasks); links = map (planLink (p .tasks)) (p .links) }

@@ -83,7 +83,8 @@ orderOf p =
       Has = Has (taskCount p) (linkCount p);
       from = leaves (λ l. linkOf p l .ends);
       to = enters (λ l. linkOf p l .ends);
-      Gives = λ e. Single (Given p e) }
+      Gives = λ e. Single (Given p e);
+    }
 
 -- a plan's limits, and a reply for each word of a link's from task
 pub record Within (p : Plan) : Type 0 where

@@ -92,7 +92,8 @@ link-prop p k x y =
       replies = coded-set codedℕ _ _ (x .replies) (y .replies) e;
       lands = λ i w h. coded-set codedBool _ _ (x .lands i w h) (y .lands i w h) e;
       first-ones = λ i j w l g h. ⊥-prop (x .first-ones i j w l g h) (y .first-ones i j w l g h) e;
-      in-order = λ i j v w a b l g h m n. le-prop (x .in-order i j v w a b l g h m n) (y .in-order i j v w a b l g h m n) e }
+      in-order = λ i j v w a b l g h m n. le-prop (x .in-order i j v w a b l g h m n) (y .in-order i j v w a b l g h m n) e;
+    }
 
 pub keeps-prop : (p : Plan) → IsProp (Keeps p)
 keeps-prop p x y =
@@ -104,7 +105,8 @@ keeps-prop p x y =
       differ = λ t i j w g h. coded-set codedℕ _ _ (x .differ t i j w g h) (y .differ t i j w g h) e;
       few-links = le-prop (x .few-links) (y .few-links) e;
       links-keep = λ l k h. link-prop p k (x .links-keep l k h) (y .links-keep l k h) e;
-      ends-differ = λ l m j k g h d. coded-set codedℕ _ _ (x .ends-differ l m j k g h d) (y .ends-differ l m j k g h d) e }
+      ends-differ = λ l m j k g h d. coded-set codedℕ _ _ (x .ends-differ l m j k g h d) (y .ends-differ l m j k g h d) e;
+    }
 
 -- a plan, with the proof that it keeps the rules
 pub record Lawful : Type 0 where

@@ -63,7 +63,8 @@ described d =
       Has = Has (length (d .tasks)) (length (d .links));
       from = leaves (λ l. linkAt d l .ends);
       to = enters (λ l. linkAt d l .ends);
-      Gives = Yields d }
+      Gives = Yields d;
+    }
 
 -- Bytes describe a restricted parametrized partial order: they are the writing of a description that keeps the limits
 -- and describes one.

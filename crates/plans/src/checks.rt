@@ -102,10 +102,10 @@ pub(crate) fn decode(bytes: &[u8]) -> Result<Record, Fault>
 {
     let record = read_record(bytes)?;
     if let Some(link) = record.repeated() {
-        return Err(Fault::Record { kind: Kind::Repeated, at: record.links[link].begins });
+        return Err(Kind::Repeated.at(record.links[link].begins));
     }
     if let Some(link) = record.unordered() {
-        return Err(Fault::Record { kind: Kind::Order, at: record.links[link].begins });
+        return Err(Kind::Order.at(record.links[link].begins));
     }
     Ok(record)
 }

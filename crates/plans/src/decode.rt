@@ -6,7 +6,6 @@ ghost use Rattle.std.specs.Vec.{made};
 ghost use Rattle.plans.specs.Reads.{Reads};
 ghost use Rattle.plans.specs.Layout.{counts, fields};
 ghost use Rattle.plans.specs.Decoded.{ReadsBody, Gives};
-use bits::Reader;
 use crate::ends::Ends;
 use crate::ends::Side;
 use crate::fault::Fault;
@@ -23,6 +22,7 @@ use crate::rule::Rule;
 use crate::shapes::Counts;
 use crate::shapes::Link;
 use crate::shapes::Name;
+use bits::Reader;
 
 // The form, and how many tasks and links there are.
 fn read_counts(reader: &mut Reader) -> Result<Counts, Fault>
@@ -32,19 +32,22 @@ fn read_counts(reader: &mut Reader) -> Result<Counts, Fault>
 {
     let at = reader.place();
     if reader.read(4)? != 1 {
-        return Err(Fault::Record { kind: Kind::Form, at });
+        return Err(Kind::Form.at(at));
     }
     let at = reader.place();
     let tasks = reader.read(6)?;
     if tasks < 1 || tasks > 32 {
-        return Err(Fault::Record { kind: Kind::Counts, at });
+        return Err(Kind::Counts.at(at));
     }
     let at = reader.place();
     let links = reader.read(7)?;
     if links > 64 {
-        return Err(Fault::Record { kind: Kind::Counts, at });
+        return Err(Kind::Counts.at(at));
     }
-    Ok(Counts { tasks: tasks as usize, links: links as usize })
+    Ok(Counts {
+        tasks: tasks as usize,
+        links: links as usize,
+    })
 }
 
 // The tasks, the links and the names.
@@ -54,14 +57,32 @@ fn read_body(reader: &mut Reader, counts: Counts) -> Result<Record, Fault>
     ensures bytes { λ _. ⌜ now (now (reader .exit) .bytes) ≡ now (now (reader .entry) .bytes) ⌝ }
 {
     let tasks = read_tasks(reader, counts.tasks)?;
-    let ends = Ends { from: 0, from_side: Side::Start, to: 0, to_side: Side::Start };
-    let rule = Rule { pick: 4, add: 0, divisor: 1 };
-    let mut links = [Link { ends, rules: [rule; 4], begins: 0 }; 64];
+    let ends = Ends {
+        from: 0,
+        from_side: Side::Start,
+        to: 0,
+        to_side: Side::Start,
+    };
+    let rule = Rule {
+        pick: 4,
+        add: 0,
+        divisor: 1,
+    };
+    let mut links = [Link {
+        ends,
+        rules: [rule; 4],
+        begins: 0,
+    }; 64];
     read_first(reader, &tasks, counts.links, &mut links)?;
     read_padding(reader)?;
     let mut names = [Name { at: 0, length: 0 }; 32];
     read_first(reader, &(), counts.tasks, &mut names)?;
-    Ok(Record { tasks, links, link_count: counts.links, names })
+    Ok(Record {
+        tasks,
+        links,
+        link_count: counts.links,
+        names,
+    })
 }
 
 // The parts of a record, or the first field that is at fault.
@@ -73,7 +94,7 @@ pub(crate) fn read_record(bytes: &[u8]) -> Result<Record, Fault>
     let record = read_body(&mut reader, counts)?;
     let end = reader.place();
     if end != 8 * bytes.len() as u128 {
-        return Err(Fault::Record { kind: Kind::Text, at: end });
+        return Err(Kind::Text.at(end));
     }
     Ok(record)
 }

@@ -1,7 +1,7 @@
 // Why a record is no plan.
 ghost use mathlib.Core.Path.{_≡_};
 ghost use Rattle.plans.specs.Faults.{numberOf, placeOf};
-ghost use Rattle.plans.specs.declared.fault.Fault.the-variants.{Bits};
+ghost use Rattle.plans.specs.declared.fault.Fault.the-variants.{Bits, Record};
 use bits::FaultDebug as _;
 use bits::FaultPartialEq as _;
 
@@ -37,6 +37,15 @@ pub enum Fault {
     Bits(bits::Fault),
     // any other, with the first bit of the field, task or link that is at fault
     Record { kind: Kind, at: u128 },
+}
+
+impl Kind {
+    // The fault of this kind at a bit.
+    pub(crate) fn at(self, at: u128) -> Fault
+        ensures { λ r. ⌜ r ≡ Record self at ⌝ }
+    {
+        Fault::Record { kind: self, at }
+    }
 }
 
 impl Fault {

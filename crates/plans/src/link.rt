@@ -50,7 +50,11 @@ impl Rule {
     fn sum(&self, values: [Value; 4]) -> i32
         ensures { λ r. ⌜ r ≡ sum (now (self .entry)) values ⌝ }
     {
-        let source = if self.pick < 4 { values[self.pick as usize] } else { 0 };
+        let source = if self.pick < 4 {
+            values[self.pick as usize]
+        } else {
+            0
+        };
         i32::from(source) + i32::from(self.add)
     }
 

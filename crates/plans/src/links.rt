@@ -4,7 +4,6 @@ ghost use Prim.Native.Nat.{_≤_, _<_};
 ghost use mathlib.Core.Path.{_≡_};
 ghost use Rattle.plans.specs.Layout.{link, taskOf};
 ghost use Rattle.plans.specs.Decoded.{ReadsTasks, tasksOf};
-use bits::Reader;
 use crate::ends::Ends;
 use crate::fault::Fault;
 use crate::fault::Kind;
@@ -18,6 +17,7 @@ use crate::rule::Rule;
 use crate::shapes::Link;
 use crate::shapes::Params;
 use crate::tasks::Tasks;
+use bits::Reader;
 
 // So many tasks.
 pub(crate) fn read_tasks(reader: &mut Reader, count: usize) -> Result<Tasks, Fault>
@@ -25,8 +25,15 @@ pub(crate) fn read_tasks(reader: &mut Reader, count: usize) -> Result<Tasks, Fau
     ensures value { λ r. ⌜ ReadsTasks count (now (now (reader .entry) .bytes)) (now (reader .entry) .at) r (now (reader .exit) .at) ⌝ }
     ensures bytes { λ _. ⌜ now (now (reader .exit) .bytes) ≡ now (now (reader .entry) .bytes) ⌝ }
 {
-    let none = Param { low: 0, high: 0, down: false };
-    let mut each = [Params { each: [none; 4], used: 0 }; 32];
+    let none = Param {
+        low: 0,
+        high: 0,
+        down: false,
+    };
+    let mut each = [Params {
+        each: [none; 4],
+        used: 0,
+    }; 32];
     read_first(reader, &(), count, &mut each)?;
     Ok(Tasks { each, count })
 }
@@ -51,10 +58,18 @@ pub(crate) impl Part<Tasks> for Link as LinkPart {
         let from = ends.from;
         let to = ends.to;
         if from >= tasks.count || to >= tasks.count || from == to {
-            return Err(Fault::Record { kind: Kind::Ends, at: begins });
+            return Err(Kind::Ends.at(begins));
         }
-        let mut rules = [Rule { pick: 4, add: 0, divisor: 1 }; 4];
+        let mut rules = [Rule {
+            pick: 4,
+            add: 0,
+            divisor: 1,
+        }; 4];
         read_first(reader, &tasks.used_by(from), tasks.used_by(to), &mut rules)?;
-        Ok(Link { ends, rules, begins })
+        Ok(Link {
+            ends,
+            rules,
+            begins,
+        })
     }
 }

@@ -32,14 +32,39 @@ fn empty() -> Record
     ensures tasks { λ r. ⌜ r .tasks .count ≡ 0 ⌝ }
     ensures links { λ r. ⌜ r .«link_count» ≡ 0 ⌝ }
 {
-    let ends = Ends { from: 0, from_side: Side::Start, to: 0, to_side: Side::Start };
-    let rule = Rule { pick: 4, add: 0, divisor: 1 };
-    let param = Param { low: 0, high: 0, down: false };
-    let each = [Params { each: [param; 4], used: 0 }; 32];
+    let ends = Ends {
+        from: 0,
+        from_side: Side::Start,
+        to: 0,
+        to_side: Side::Start,
+    };
+    let rule = Rule {
+        pick: 4,
+        add: 0,
+        divisor: 1,
+    };
+    let param = Param {
+        low: 0,
+        high: 0,
+        down: false,
+    };
+    let each = [Params {
+        each: [param; 4],
+        used: 0,
+    }; 32];
     let tasks = Tasks { each, count: 0 };
-    let links = [Link { ends, rules: [rule; 4], begins: 0 }; 64];
+    let links = [Link {
+        ends,
+        rules: [rule; 4],
+        begins: 0,
+    }; 64];
     let names = [Name { at: 0, length: 0 }; 32];
-    Record { tasks, links, link_count: 0, names }
+    Record {
+        tasks,
+        links,
+        link_count: 0,
+        names,
+    }
 }
 
 // The parts of a record that passes, or none.

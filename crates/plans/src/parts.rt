@@ -2,7 +2,6 @@
 ghost use mathlib.Core.Path.{_≡_};
 ghost use Rattle.plans.specs.Reads.{Reads};
 ghost use Rattle.plans.specs.Layout.{param, task, rule, sideOf, ends, padding, letter, name};
-use bits::Reader;
 use crate::ends::Ends;
 use crate::ends::Side;
 use crate::fault::Fault;
@@ -16,6 +15,7 @@ use crate::shapes::Letter;
 use crate::shapes::Name;
 use crate::shapes::Params;
 use crate::task::product;
+use bits::Reader;
 
 pub(crate) impl Part<()> for Param as ParamPart {
     ghost reads = { λ _ bs. param bs };
@@ -25,10 +25,14 @@ pub(crate) impl Part<()> for Param as ParamPart {
         let at = reader.place();
         let high = reader.read(8)?;
         if low > high {
-            return Err(Fault::Record { kind: Kind::Params, at });
+            return Err(Kind::Params.at(at));
         }
         let down = reader.read(1)?;
-        Ok(Param { low: low as u8, high: high as u8, down: down == 1 })
+        Ok(Param {
+            low: low as u8,
+            high: high as u8,
+            down: down == 1,
+        })
     }
 }
 
@@ -39,14 +43,21 @@ pub(crate) impl Part<()> for Params as ParamsPart {
         let at = reader.place();
         let used = reader.read(3)?;
         if used > 4 {
-            return Err(Fault::Record { kind: Kind::Params, at });
+            return Err(Kind::Params.at(at));
         }
-        let mut each = [Param { low: 0, high: 0, down: false }; 4];
+        let mut each = [Param {
+            low: 0,
+            high: 0,
+            down: false,
+        }; 4];
         read_first(reader, known, used as usize, &mut each)?;
         if product(&each) > 65536 {
-            return Err(Fault::Record { kind: Kind::Words, at });
+            return Err(Kind::Words.at(at));
         }
-        Ok(Params { each, used: used as usize })
+        Ok(Params {
+            each,
+            used: used as usize,
+        })
     }
 }
 
@@ -58,15 +69,19 @@ pub(crate) impl Part<usize> for Rule as RulePart {
         let at = reader.place();
         let pick = reader.read(3)?;
         if pick as usize >= *sources && pick != 4 {
-            return Err(Fault::Record { kind: Kind::Rule, at });
+            return Err(Kind::Rule.at(at));
         }
         let add = reader.read(9)? as i16;
         let at = reader.place();
         let divisor = reader.read(4)?;
         if divisor == 0 {
-            return Err(Fault::Record { kind: Kind::Rule, at });
+            return Err(Kind::Rule.at(at));
         }
-        Ok(Rule { pick: pick as u8, add: if add < 256 { add } else { add - 512 }, divisor: divisor as u8 })
+        Ok(Rule {
+            pick: pick as u8,
+            add: if add < 256 { add } else { add - 512 },
+            divisor: divisor as u8,
+        })
     }
 }
 
@@ -85,7 +100,12 @@ pub(crate) impl Part<()> for Ends as EndsPart {
         let from_side = side_of(reader.read(1)?);
         let to = reader.read(5)? as usize;
         let to_side = side_of(reader.read(1)?);
-        Ok(Ends { from, from_side, to, to_side })
+        Ok(Ends {
+            from,
+            from_side,
+            to,
+            to_side,
+        })
     }
 }
 
@@ -97,7 +117,7 @@ pub(crate) fn read_padding(reader: &mut Reader) -> Result<(), Fault>
     let at = reader.place();
     let width = (8 - at % 8) % 8;
     if reader.read(width as u32)? != 0 {
-        return Err(Fault::Record { kind: Kind::Text, at });
+        return Err(Kind::Text.at(at));
     }
     Ok(())
 }
@@ -109,7 +129,7 @@ pub(crate) impl Part<()> for Letter as LetterPart {
         let at = reader.place();
         let code = reader.read(8)?;
         if code < 33 || code > 126 {
-            return Err(Fault::Record { kind: Kind::Text, at });
+            return Err(Kind::Text.at(at));
         }
         Ok(Letter { code: code as u8 })
     }
@@ -122,11 +142,14 @@ pub(crate) impl Part<()> for Name as NamePart {
         let at = reader.place();
         let length = reader.read(8)?;
         if length < 1 || length > 15 {
-            return Err(Fault::Record { kind: Kind::Text, at });
+            return Err(Kind::Text.at(at));
         }
         let begins = reader.place();
         let mut letters = [Letter { code: 0 }; 15];
         read_first(reader, known, length as usize, &mut letters)?;
-        Ok(Name { at: (begins / 8) as usize, length: length as usize })
+        Ok(Name {
+            at: (begins / 8) as usize,
+            length: length as usize,
+        })
     }
 }

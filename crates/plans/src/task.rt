@@ -49,7 +49,11 @@ impl Param {
         requires { ⌜ turn < size (now self) ⌝ }
         ensures { λ r. ⌜ r ≡ valueAt (now (self .entry)) turn ⌝ }
     {
-        if self.down { self.high - turn as Value } else { self.low + turn as Value }
+        if self.down {
+            self.high - turn as Value
+        } else {
+            self.low + turn as Value
+        }
     }
 
     // The turn at which the parameter has a value.
@@ -59,7 +63,11 @@ impl Param {
         if value < self.low || value > self.high {
             return None;
         }
-        Some(u32::from(if self.down { self.high - value } else { value - self.low }))
+        Some(u32::from(if self.down {
+            self.high - value
+        } else {
+            value - self.low
+        }))
     }
 }
 
@@ -87,7 +95,11 @@ impl Task {
             values[i] = p.value_at(rest % turns);
             rest /= turns;
         }
-        if rest == 0 { Some(word_of(values)) } else { None }
+        if rest == 0 {
+            Some(word_of(values))
+        } else {
+            None
+        }
     }
 
     // The place of a word.

@@ -48,8 +48,9 @@ held : (p : Plan) {es : List Event} → Secured p es → (e d : Event) → among
 held p none e d h r = absurd (false≢true h)
 held p (more x es s of new under) e d h r =
     elim (or-cases (sameEvent e x) (among es e) h) [
-      inl t ↦ or-right (sameEvent d x) (among es d) (under d (subst (λ y. Rests p y d) (event-is e x t) r))
-    | inr t ↦ or-right (sameEvent d x) (among es d) (held p s e d t r) ]
+      | inl t ↦ or-right (sameEvent d x) (among es d) (under d (subst (λ y. Rests p y d) (event-is e x t) r))
+      | inr t ↦ or-right (sameEvent d x) (among es d) (held p s e d t r)
+    ]
 
 -- around the circle
 a-rests : Rests two (event 0 Start) (event 1 Finish)
@@ -69,14 +70,15 @@ never : {es : List Event} → Secured two es → among es (event 0 Start) ≡ tr
 never none h = false≢true h
 never (more x es s of new under) h =
     elim (or-cases (sameEvent (event 0 Start) x) (among es (event 0 Start)) h) [
-      inl t ↦ (
-        let is = event-is (event 0 Start) x t in
-        let f = under (event 1 Finish) (subst (λ y. Rests two y (event 1 Finish)) is a-rests) in
-        let g = held two s (event 1 Finish) (event 1 Start) f b-ends in
-        let k = held two s (event 1 Start) (event 0 Finish) g b-rests in
-        let l = held two s (event 0 Finish) (event 0 Start) k a-ends in
-        both-ways (among es x) new (ap (among es) (sym is) ∙ l))
-    | inr t ↦ never s t ]
+      | inl t ↦ (
+          let is = event-is (event 0 Start) x t in
+          let f = under (event 1 Finish) (subst (λ y. Rests two y (event 1 Finish)) is a-rests) in
+          let g = held two s (event 1 Finish) (event 1 Start) f b-ends in
+          let k = held two s (event 1 Start) (event 0 Finish) g b-rests in
+          let l = held two s (event 0 Finish) (event 0 Start) k a-ends in
+          both-ways (among es x) new (ap (among es) (sym is) ∙ l))
+      | inr t ↦ never s t
+    ]
 
 unreached : Configuration two (among everything) → ⊥
 unreached (es, s, same) = never s (sym (same (event 0 Start)))
@@ -88,14 +90,18 @@ Of-two t = (t ≡ 0) ⊎ (t ≡ 1)
 listed : (e : Event) → among everything e ≡ true → Of-two (e .task) × (e .word ≡ 0)
 listed e h =
     elim (or-cases (sameEvent e (event 0 Start)) _ h) [
-      inl t ↦ (let is = event-is e (event 0 Start) t in (inl (ap (λ x. x .task) is), ap (λ x. x .word) is))
-    | inr h ↦ elim (or-cases (sameEvent e (event 0 Finish)) _ h) [
-      inl t ↦ (let is = event-is e (event 0 Finish) t in (inl (ap (λ x. x .task) is), ap (λ x. x .word) is))
-    | inr h ↦ elim (or-cases (sameEvent e (event 1 Start)) _ h) [
-      inl t ↦ (let is = event-is e (event 1 Start) t in (inr (ap (λ x. x .task) is), ap (λ x. x .word) is))
-    | inr h ↦ elim (or-cases (sameEvent e (event 1 Finish)) false h) [
-      inl t ↦ (let is = event-is e (event 1 Finish) t in (inr (ap (λ x. x .task) is), ap (λ x. x .word) is))
-    | inr h ↦ absurd (false≢true h) ] ] ] ]
+      | inl t ↦ (let is = event-is e (event 0 Start) t in (inl (ap (λ x. x .task) is), ap (λ x. x .word) is))
+      | inr h ↦ elim (or-cases (sameEvent e (event 0 Finish)) _ h) [
+        | inl t ↦ (let is = event-is e (event 0 Finish) t in (inl (ap (λ x. x .task) is), ap (λ x. x .word) is))
+        | inr h ↦ elim (or-cases (sameEvent e (event 1 Start)) _ h) [
+          | inl t ↦ (let is = event-is e (event 1 Start) t in (inr (ap (λ x. x .task) is), ap (λ x. x .word) is))
+          | inr h ↦ elim (or-cases (sameEvent e (event 1 Finish)) false h) [
+            | inl t ↦ (let is = event-is e (event 1 Finish) t in (inr (ap (λ x. x .task) is), ap (λ x. x .word) is))
+            | inr h ↦ absurd (false≢true h)
+          ]
+        ]
+      ]
+    ]
 
 of-all : (t : ℕ) (s : Side) → Of-two t → among everything (record { task = t; side = s; word = 0 }) ≡ true
 of-all t Start (inl e) = ap (λ n. among everything (event n Start)) e
@@ -109,8 +115,9 @@ stands d t w = ap (λ n. among everything (record { task = d .task; side = d .si
 -- the word of a task that has one
 only : (w : ℕ) (f : ℕ → Option ℕ) (v : ℕ) → andThen (placeIn (0 ∷ []) w) f ≡ Some v → (w ≡ 0) × (f 0 ≡ Some v)
 only w f v e = elim (cases-bool (eqb 0 w)) [
-    inl t ↦ (sym (eqb-true 0 w t), rw t at e)
-  | inr t ↦ absurd (let g = rw t at e in let z : _≡_ {A = ℕ} 0 1 = cc in omega arith) ]
+  | inl t ↦ (sym (eqb-true 0 w t), rw t at e)
+  | inr t ↦ absurd (let g = rw t at e in let z : _≡_ {A = ℕ} 0 1 = cc in omega arith)
+]
 
 no-next : (t w v : ℕ) → Of-two t → nextWord two t w ≡ Some v → ⊥
 no-next t w v (inl h) e = let x = only w _ v (ap (λ n. nextWord two n w) (sym h) ∙ e) in let y = x .1 in let z : _≡_ {A = ℕ} 0 1 = cc in omega arith
@@ -136,4 +143,5 @@ worked-orders =
     record {
       accepted = refl;
       closed = λ e d h r. closed e d h r;
-      unreached = λ c. unreached c }
+      unreached = λ c. unreached c;
+    }

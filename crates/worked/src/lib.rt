@@ -9,15 +9,12 @@ pub fn pipeline() -> [u8; 21]
     ensures value { λ r. ⌜ r ≡ pipelined ⌝ }
     ensures worked { λ _. ⌜ Worked-examples ⌝ }
 {
-    [
-        0x10, 0x81, 0x10, 0x10, 0x31, 0x01, 0x03, 0x02, 0x10, 0x00, 0x08, 0x60, 0x00, 0x10, 0x80, 0x02, 0x63, 0x63, 0x02, 0x6C,
-        0x64,
-    ]
+    *b"\x10\x81\x10\x10\x31\x01\x03\x02\x10\x00\x08\x60\x00\x10\x80\x02cc\x02ld"
 }
 
 // Tasks a and b have no parameters; finish a goes to start b, and finish b to start a.
 pub fn circle() -> [u8; 10]
     ensures { λ r. ⌜ r ≡ circled ⌝ }
 {
-    [0x10, 0x81, 0x00, 0x08, 0x41, 0x80, 0x01, 0x61, 0x01, 0x62]
+    *b"\x10\x81\x00\x08\x41\x80\x01a\x01b"
 }

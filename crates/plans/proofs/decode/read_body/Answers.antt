@@ -37,7 +37,8 @@ returns c =
     let s3 : now (c .read-padding .last .reader .bytes) ≡ bs = pad .bytes ∙ s2 in
     record {
       value = body-read bs (now (c .read-tasks .last .reader .bytes)) (now (c .read-first .last .reader .bytes)) (now (c .read-padding .last .reader .bytes))
-        (c .args .counts) (c .args .reader .now .at) (c .read-tasks .last .reader .at) (c .read-first .last .reader .at) (c .read-padding .last .reader .at) (c .read-first-2 .last .reader .at)
-        (tasksOf t) (take (c .args .counts .links) (c .read-first .last .out)) (take (t .count) (c .read-first-2 .last .out)) (c .in-Continue-read-padding .field-0)
-        s1 s2 s3 (tasks .value .0) (links .value .0) (pad .value) (names .value .0 ∙ ap (λ k. Ok (take k (c .read-first-2 .last .out), c .read-first-2 .last .reader .at)) (sym (tasks .value .1)));
-      bytes = names .bytes ∙ s3 }
+          (c .args .counts) (c .args .reader .now .at) (c .read-tasks .last .reader .at) (c .read-first .last .reader .at) (c .read-padding .last .reader .at) (c .read-first-2 .last .reader .at)
+          (tasksOf t) (take (c .args .counts .links) (c .read-first .last .out)) (take (t .count) (c .read-first-2 .last .out)) (c .in-Continue-read-padding .field-0)
+          s1 s2 s3 (tasks .value .0) (links .value .0) (pad .value) (names .value .0 ∙ ap (λ k. Ok (take k (c .read-first-2 .last .out), c .read-first-2 .last .reader .at)) (sym (tasks .value .1)));
+      bytes = names .bytes ∙ s3;
+    }

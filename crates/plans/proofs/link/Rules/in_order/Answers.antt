@@ -19,10 +19,11 @@ returns-then-ended c =
     let below : c .loop-i .i < length ws = omega (arith, c .word-count-i-end .ensures) in
     let is = sym (c .place-at .ensures) ∙ c .in-Some .is in
     elim (c .then-ended .came) [
-      then-ended·by·then-ended w ↦
-        sym (late-at f ws (c .loop-i .i) (c .loop-i .least) below (c .in-Some .place) is) ∙ ap (λ b. holds b (c .loop-i .least) (drop (c .loop-i .i) (map f ws))) (sym (w .if-ended .taken)) ∙ c .loop-i .inv
-    | then-ended·by·else-ended·then-place-least w ↦
-        sym (back-at f ws (c .loop-i .i) (c .loop-i .least) below (c .in-Some .place) is (w .if-place-least .taken)) ∙ ap (λ b. holds b (c .loop-i .least) (drop (c .loop-i .i) (map f ws))) (sym (w .if-ended .left)) ∙ c .loop-i .inv ]
+      | then-ended·by·then-ended w ↦
+          sym (late-at f ws (c .loop-i .i) (c .loop-i .least) below (c .in-Some .place) is) ∙ ap (λ b. holds b (c .loop-i .least) (drop (c .loop-i .i) (map f ws))) (sym (w .if-ended .taken)) ∙ c .loop-i .inv
+      | then-ended·by·else-ended·then-place-least w ↦
+          sym (back-at f ws (c .loop-i .i) (c .loop-i .least) below (c .in-Some .place) is (w .if-place-least .taken)) ∙ ap (λ b. holds b (c .loop-i .least) (drop (c .loop-i .i) (map f ws))) (sym (w .if-ended .left)) ∙ c .loop-i .inv
+    ]
 
 pub loop-i-again-in-rest : need.loop-i-again-in-rest
 loop-i-again-in-rest c =

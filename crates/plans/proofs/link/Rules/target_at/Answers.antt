@@ -18,8 +18,8 @@ pub loop-i-again : need.loop-i-again
 loop-i-again c =
     let four = c .args .to .now .four in
     let step = target-step (c .args .self .now .each) (c .args .to .now .params) (c .values-of-values .result) (c .loop-i .target) (c .loop-i .i)
-        noRule noParam (c .in-Continue-target .field-0)
-        (omega arith) (omega arith) (omega (arith, c .loop-i .inv .1)) (sym (c .value-for .ensures) ∙ c .in-Continue-target .was tt) in
+    noRule noParam (c .in-Continue-target .field-0)
+    (omega arith) (omega arith) (omega (arith, c .loop-i .inv .1)) (sym (c .value-for .ensures) ∙ c .in-Continue-target .was tt) in
     (sym step ∙ c .loop-i .inv .0, length-set (c .loop-i .target) (c .loop-i .i) (c .in-Continue-target .field-0) ∙ c .loop-i .inv .1)
 
 pub returns-in-Break-target : need.returns-in-Break-target
@@ -28,9 +28,9 @@ returns-in-Break-target c =
     let rs = c .args .self .now .each in
     let four = c .args .to .now .four in
     let stop = target-stop rs ps (c .values-of-values .result) (c .loop-i .target) (c .loop-i .i) noRule noParam
-        (omega arith) (omega arith) (sym (c .value-for .ensures) ∙ c .in-Break-target .was tt) in
+    (omega arith) (omega arith) (sym (c .value-for .ensures) ∙ c .in-Break-target .was tt) in
     let none : valuesFor rs ps (valuesOf (c .args .word)) ≡ None =
-        ap (valuesFor rs ps) (sym (c .values-of-values .ensures)) ∙ sym (c .loop-i .inv .0) ∙ stop in
+    ap (valuesFor rs ps) (sym (c .values-of-values .ensures)) ∙ sym (c .loop-i .inv .0) ∙ stop in
     c .from-residual-in-Break-target .ensures ∙ ap (mapped wordOf) (sym none)
     ∙ sym (targetAt-word (c .args .from .now .params) ps rs (c .args .word) (c .in-Continue-place-of .field-0) (sym (c .place-of .ensures .value) ∙ c .in-Continue-place-of .was tt))
 
@@ -41,7 +41,7 @@ returns c =
     let four = c .args .to .now .four in
     let end = target-end rs ps (c .values-of-values .result) (c .loop-i .target) (c .loop-i .i) (omega arith) (omega arith) (omega (arith, c .loop-i .inv .1)) in
     let all : valuesFor rs ps (valuesOf (c .args .word)) ≡ Some (c .loop-i .target) =
-        ap (valuesFor rs ps) (sym (c .values-of-values .ensures)) ∙ sym (c .loop-i .inv .0) ∙ end in
+    ap (valuesFor rs ps) (sym (c .values-of-values .ensures)) ∙ sym (c .loop-i .inv .0) ∙ end in
     ap Some (c .word-of .ensures) ∙ ap (mapped wordOf) (sym all)
     ∙ sym (targetAt-word (c .args .from .now .params) ps rs (c .args .word) (c .in-Continue-place-of .field-0) (sym (c .place-of .ensures .value) ∙ c .in-Continue-place-of .was tt))
 

@@ -21,7 +21,10 @@ returns c =
     let is = name-here (p .parts) t (omega arith) in
     let room : x .length ≤ length (drop (x .at) bs) = omega (arith, length-drop (x .at) bs, low) in
     record {
-      bytes = (omega (arith, names-long (p .parts) t (omega arith)),
+      bytes = (
+        omega (arith, names-long (p .parts) t (omega arith)),
         c .part .ensures .bytes ∙ ap (λ y. take (y .length) (drop (y .at) bs)) is,
-        ap length (c .part .ensures .bytes) ∙ length-take-le (x .length) (drop (x .at) bs) room ∙ ap (λ y. y .length) is);
-      place = c .part .ensures .place ∙ ap (λ y. (ptr (p .bytes) .0, ptr (p .bytes) .1 + y .at)) is }
+        ap length (c .part .ensures .bytes) ∙ length-take-le (x .length) (drop (x .at) bs) room ∙ ap (λ y. y .length) is,
+      );
+      place = c .part .ensures .place ∙ ap (λ y. (ptr (p .bytes) .0, ptr (p .bytes) .1 + y .at)) is;
+    }

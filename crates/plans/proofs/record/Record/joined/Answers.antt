@@ -23,4 +23,5 @@ returns c =
     record {
       from = c .get-from .ensures .params ∙ ap (λ l. taskOf (tasksOf (r .tasks)) (l .ends .from) .each) is;
       to = c .get-to .ensures .params ∙ ap (λ l. taskOf (tasksOf (r .tasks)) (l .ends .to) .each) is;
-      rules = ap (λ l. l .rules) is }
+      rules = ap (λ l. l .rules) is;
+    }

@@ -37,7 +37,7 @@ returns-in-Break-place c =
     let missed : turnOf (getD ps i noParam) (getD vs i 0) ≡ None = sym (c .turn-of .ensures) ∙ c .in-Break-place .was tt in
     let none : placeFrom 0 ps vs ≡ None = sym (c .loop-i .inv .0) ∙ step ∙ rw missed in
     let place : placeFrom 0 ps vs ≡ placeIn (words ps) (c .args .word) =
-        ap (placeFrom 0 ps) (c .values-of-values .ensures) ∙ place-words ps (c .args .word) four (c .args .self .now .bytes) (omega arith) in
+    ap (placeFrom 0 ps) (c .values-of-values .ensures) ∙ place-words ps (c .args .word) four (c .args .self .now .bytes) (omega arith) in
     rw (c .from-residual .ensures) (record { value = sym none ∙ place; within = tt })
 
 -- the turn that was found
@@ -48,7 +48,7 @@ found-turn c = sym (c .turn-of .ensures) ∙ c .in-Continue-place .was tt
 low-turn : (c : need.In-Continue-place) → c .in-Continue-place .field-0 < c .size .result
 low-turn c =
     let v = value-of-turn (getD (c .args .self .now .params) (c .loop-i .i) noParam) (getD (c .values-of-values .result) (c .loop-i .i) 0)
-        (c .in-Continue-place .field-0) (found-turn c) in
+    (c .in-Continue-place .field-0) (found-turn c) in
     omega (arith, v .0, c .size .ensures .value)
 
 pub add-place : need.add-place
@@ -70,7 +70,7 @@ loop-i-again c =
     let t = c .in-Continue-place .field-0 in
     let step = place-step ps vs i noParam place (omega arith) (omega arith) in
     let on : placeFrom place (drop i ps) (drop i vs) ≡ placeFrom (place * s + t) (drop (i + 1) ps) (drop (i + 1) vs) =
-        step ∙ rw (found-turn c, ← c .size .ensures .value) in
+    step ∙ rw (found-turn c, ← c .size .ensures .value) in
     let room = room-step ps i noParam place s (c .args .self .now .some) (omega arith) (c .size .ensures .value) (c .loop-i .inv .1) in
     let rest = count (drop (i + 1) ps) in
     let le : place * s + t + 1 ≤ (place + 1) * s = omega (arith, add-mul place 1 s, low-turn c) in
@@ -87,7 +87,7 @@ returns c =
     let noRest : drop i ps ≡ [] = drop-all i ps (omega arith) in
     let noValue : drop i vs ≡ [] = drop-all i vs (omega arith) in
     let place : placeFrom 0 ps vs ≡ placeIn (words ps) (c .args .word) =
-        ap (placeFrom 0 ps) (c .values-of-values .ensures) ∙ place-words ps (c .args .word) four (c .args .self .now .bytes) (omega arith) in
+    ap (placeFrom 0 ps) (c .values-of-values .ensures) ∙ place-words ps (c .args .word) four (c .args .self .now .bytes) (omega arith) in
     let end : placeFrom (c .loop-i .place) (drop i ps) (drop i vs) ≡ Some (c .loop-i .place) = rw (noRest, noValue) in
     let one : count (drop i ps) ≡ 1 = ap count noRest in
     let room = ap (λ n. (c .loop-i .place + 1) * n) one in

@@ -26,8 +26,8 @@ loop-i-again c =
     let ps = c .args .self .now .params in
     let four = c .args .self .now .four in
     let step =
-        digit-step ps (c .loop-i .values) (c .args .place) (c .loop-i .rest) (c .loop-i .i - 1) (c .loop-i .i) (c .size-turns .result) (c .value-at .result) noParam
-        (omega arith) (omega arith) (omega arith) (c .size-turns .ensures .value) (c .value-at .ensures) (c .loop-i .inv .0) (c .loop-i .inv .1) in
+    digit-step ps (c .loop-i .values) (c .args .place) (c .loop-i .rest) (c .loop-i .i - 1) (c .loop-i .i) (c .size-turns .result) (c .value-at .result) noParam
+    (omega arith) (omega arith) (omega arith) (c .size-turns .ensures .value) (c .value-at .ensures) (c .loop-i .inv .0) (c .loop-i .inv .1) in
     (step .0, step .1, length-set (c .loop-i .values) (c .loop-i .i - 1) (c .value-at .result) ∙ c .loop-i .inv .2)
 
 some-turns : (t : Task) (i s : ℕ) → i < 4 → s ≡ size (getD (t .params) i noParam) → 0 < s
@@ -51,7 +51,7 @@ returns-then-rest-eq0 c =
     let rest : c .loop-i .rest ≡ c .args .place / count ps = c .loop-i .inv .0 ∙ ap (λ n. c .args .place / count (drop n ps)) z in
     let low : c .args .place < count ps = below-end (c .args .place) (count ps) (c .args .self .now .some) (omega arith) in
     let values : c .loop-i .values ≡ tupleAt ps (c .args .place) =
-        ap (λ n. drop n (c .loop-i .values)) (sym z) ∙ c .loop-i .inv .1 ∙ ap (λ n. tupleAt (drop n ps) (c .args .place)) z in
+    ap (λ n. drop n (c .loop-i .values)) (sym z) ∙ c .loop-i .inv .1 ∙ ap (λ n. tupleAt (drop n ps) (c .args .place)) z in
     ap Some (c .word-of .ensures ∙ ap wordOf values)
     ∙ sym (nth-words ps (c .args .place) low)
 
