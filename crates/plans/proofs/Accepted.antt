@@ -1,23 +1,21 @@
 -- What is known of tasks that were accepted.
 use Prim.Native.Nat.{ℕ, zero, suc, _+_, _-_, _<_, _≤_}
-use mathlib.Core.Path.{_≡_, refl, sym, ap, _∙_, subst}
-use mathlib.Core.Bool.{Bool, true, false, cond, _&&_, _||_}
+use mathlib.Core.Path.{_≡_, refl, ap, _∙_, subst}
+use mathlib.Core.Bool.{true, _&&_, _||_}
 use mathlib.Core.List.{List, [], _∷_, _++_}
-use mathlib.Core.Logic.{inl, inr}
 use native.Mathlib.Omega.{arith}
 use lib.Dec.{leb, ltb, eqb}
 use lib.ListN.{length, getD, replicate}
 use Rattle.std.proofs.shelf.Lists.{length-append, length-replicate}
 use Rattle.std.proofs.shelf.Tests.{and-from, and-parts, lt-ltb, le-leb, eq-eqb, leb-true, ltb-true, eqb-true}
-use Rattle.std.specs.declared.result.Result.the-variants.{Ok, Err}
+use Rattle.std.specs.declared.result.Result.the-variants.{Ok}
 use Rattle.std.specs.shelf.Lists.{All}
 use Rattle.plans.specs.declared.fault.Kind.the-variants as kind
-use Rattle.plans.specs.declared.param.Param.{Param}
 use Rattle.plans.specs.declared.shapes.Params.{Params}
 use Rattle.plans.specs.declared.shapes.Link.{Link}
 use Rattle.plans.specs.declared.rule.Rule.{Rule}
 use Rattle.plans.specs.declared.ends.Ends.{Ends}
-use Rattle.plans.specs.Reads.{next, unless, give, times, number, numberThat}
+use Rattle.plans.specs.Reads.{unless, times, number, numberThat}
 use Rattle.plans.specs.Layout.{noParam, noRule, noTask, filled, filledBy, param, task, taskOf, twos, rule, ends, join, link}
 use Rattle.plans.specs.Accepted.{goodTask, goodTasks, Good, goodLink, goodLinks}
 use Rattle.plans.specs.Targets.{divideAll}

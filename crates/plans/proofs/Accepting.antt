@@ -1,32 +1,28 @@
 -- Bytes are accepted exactly if they describe a restricted parametrized partial order, and the plan then means it.
-use Prim.Native.Nat.{ℕ, zero, suc, _<_}
+use Prim.Native.Nat.{ℕ, _<_}
 use mathlib.Core.Path.{_≡_, refl, sym, ap, _∙_, subst}
-use mathlib.Core.Bool.{Bool, true, false}
-use mathlib.Core.List.{List, [], _∷_}
+use mathlib.Core.Bool.{true, false}
+use mathlib.Core.List.{List, []}
 use native.Mathlib.Omega.{arith}
-use lib.ListN.{length, getD}
-use Rattle.std.specs.Orderings.{Decides}
+use lib.ListN.{length}
 use Rattle.std.specs.Results.{isOk}
 use Rattle.std.proofs.shelf.Elements.{all-getD, all-from-getD}
 use Rattle.std.proofs.shelf.Tests.{false≢true}
 use Rattle.std.specs.declared.result.Result.{Result}
 use Rattle.std.specs.declared.result.Result.the-variants.{Ok, Err}
-use Rattle.bits.specs.Bits.{bits}
 use Rattle.plans.specs.declared.fault.Fault.{Fault}
 use Rattle.plans.specs.declared.ends.Side.{Side}
 use Rattle.plans.specs.declared.ends.Side.the-variants.{Start, Finish}
 use Rattle.plans.specs.declared.ends.Ends.{Ends}
 use Rattle.plans.specs.Reads.{onOk}
-use Rattle.plans.specs.Layout.{Parts, fields}
+use Rattle.plans.specs.Layout.{Parts}
 use Rattle.plans.specs.Record.{checked, late}
-use Rattle.plans.specs.Plan.{Plan}
 use Rattle.plans.specs.Meaning.{planOf, partsOr}
 use Rattle.plans.specs.Ppo.{Ppo, Restricted}
-use Rattle.plans.specs.Orders.{Edge, turn, link, other, fromType, toType}
-use Rattle.plans.specs.Description.{Link, Description, LinkLimits, Limits, written}
+use Rattle.plans.specs.Orders.{turn, link}
+use Rattle.plans.specs.Description.{Description, LinkLimits, Limits}
 use Rattle.plans.specs.Terms.{linkAt, described, Record-of, Means, Terms}
-use Rattle.plans.proofs.Keeping.{Read-facts, Facts, keeps, within, checked-ok}
-use Rattle.plans.proofs.Naming.{ok-is}
+use Rattle.plans.proofs.Keeping.{keeps, within, checked-ok}
 use Rattle.plans.proofs.Passing.{read-facts, passes}
 use Rattle.plans.proofs.Parted.{Parted, Apart}
 use Rattle.plans.proofs.Writing.{read-writes}

@@ -1,8 +1,7 @@
 -- A record read part by part.
 use Prim.Native.Nat.{ℕ}
-use mathlib.Core.Path.{_≡_, refl, sym, ap, _∙_}
+use mathlib.Core.Path.{_≡_, ap, _∙_}
 use mathlib.Core.List.{List}
-use Rattle.std.specs.declared.result.Result.{Result}
 use Rattle.std.specs.declared.result.Result.the-variants.{Ok, Err}
 use Rattle.plans.specs.declared.fault.Fault.{Fault}
 use Rattle.plans.specs.declared.shapes.Params.{Params}
@@ -10,7 +9,7 @@ use Rattle.plans.specs.declared.shapes.Link.{Link}
 use Rattle.plans.specs.declared.shapes.Name.{Name}
 use Rattle.plans.specs.declared.shapes.Counts.{Counts}
 use Rattle.plans.specs.Reads.{Read, onOk, next, times, give}
-use Rattle.plans.specs.Layout.{task, link, padding, name, body, counts, parts, ended, fields, Parts}
+use Rattle.plans.specs.Layout.{task, link, padding, name, body, counts, ended, fields, Parts}
 
 pub next-ok : {A B : Type 0} (m : Read A) (f : A → Read B) (at : ℕ) (x : A) (mid : ℕ) → m at ≡ Ok (x, mid) → next m f at ≡ f x mid
 next-ok m f at x mid h = ap (λ r. onOk r (λ q. f (q .0) (q .1))) h

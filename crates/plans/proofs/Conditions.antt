@@ -17,7 +17,7 @@ use Rattle.plans.specs.Ppo.{Next, Upto}
 use Rattle.plans.specs.Orders.{turn, link, other, fromType, toType, linkOf, orderOf, Describes}
 use Rattle.plans.proofs.Places.{nth-within, nth-placeIn, placeIn-found}
 use Rattle.plans.proofs.Walking.{some-eq, none-some, single-eq, word-known, word-at, link-at, link-is, next-from, upto, Alone, Differ, walked}
-use Rattle.plans.proofs.Restricting.{valuation-is, describes}
+use Rattle.plans.proofs.Restricting.{valuation-is}
 
 link-turn : (l t : ℕ) (s : Side) → link l ≡ turn t s → ⊥
 link-turn l t s e = let z : _≡_ {A = ℕ} 0 1 = cc in omega arith

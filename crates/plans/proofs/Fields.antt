@@ -1,7 +1,7 @@
 -- What is known of fields that were accepted.
 use Prim.Native.Nat.{ℕ, zero, suc, _*_, _+_, _^_, _<_, _≤_}
 use mathlib.Core.Path.{_≡_, refl, sym, ap, _∙_}
-use mathlib.Core.Bool.{Bool, true, false, cond}
+use mathlib.Core.Bool.{Bool, true, false}
 use mathlib.Core.List.{List, [], _∷_, _++_}
 use mathlib.Core.Logic.{inl, inr}
 use native.Mathlib.Omega.{arith}
@@ -20,9 +20,8 @@ use Rattle.plans.specs.declared.fault.Kind.{Kind}
 use Rattle.plans.specs.declared.fault.Kind.the-variants as kind
 use Rattle.plans.specs.declared.param.Param.{Param}
 use Rattle.plans.specs.Reads.{onOk, next, unless, give, lifted, number, numberThat, Read, times}
-use Rattle.plans.specs.Layout.{param, task}
+use Rattle.plans.specs.Layout.{noParam, param, task}
 use Rattle.plans.specs.Words.{base, size, count, holdBytes, Bytes}
-use Rattle.plans.proofs.Steps.{noParam}
 use Rattle.std.specs.shelf.Lists.{All}
 
 pub onOk-ok : {A B : Type 0} (r : Result A Fault) (f : A → Result B Fault) (y : B) → onOk r f ≡ Ok y → (x : A) × (r ≡ Ok x) × (f x ≡ Ok y)

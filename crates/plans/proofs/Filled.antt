@@ -1,5 +1,5 @@
 -- Parameters filled up to four mean the same words with their unused bytes 0.
-use Prim.Native.Nat.{ℕ, zero, suc, _+_, _-_, _≤_}
+use Prim.Native.Nat.{ℕ, zero, suc, _+_, _-_}
 use mathlib.Core.Path.{_≡_, refl, sym, ap, _∙_}
 use mathlib.Core.List.{List, [], _∷_, _++_, map}
 use lib.ListN.{length, replicate}
@@ -7,8 +7,7 @@ use Rattle.std.specs.shelf.Lists.{joined}
 use Rattle.std.proofs.shelf.Lists.{map-append}
 use Rattle.plans.specs.declared.param.Param.{Param}
 use Rattle.plans.specs.Words.{values, tuples, words, wordOf}
-use Rattle.plans.specs.Layout.{filled}
-use Rattle.plans.proofs.Steps.{noParam}
+use Rattle.plans.specs.Layout.{noParam, filled}
 
 unused : (k : ℕ) → tuples (replicate k noParam) ≡ replicate k 0 ∷ []
 unfolding tuples

@@ -1,17 +1,15 @@
 -- What is known of a record that was read.
-use Prim.Native.Nat.{ℕ, zero, suc, _+_, _<_, _≤_}
+use Prim.Native.Nat.{ℕ, zero, suc, _<_}
 use mathlib.Core.Path.{_≡_, refl, sym, ap, _∙_, subst}
-use mathlib.Core.Bool.{Bool, true, false, not, _&&_}
+use mathlib.Core.Bool.{true, false, not, _&&_}
 use mathlib.Core.List.{List, [], _∷_, map}
 use mathlib.Core.Logic.{inl, inr}
 use native.Mathlib.Omega.{arith}
 use lib.Dec.{ltb, eqb}
-use lib.ListN.{length, getD, take}
+use lib.ListN.{length, getD}
 use Rattle.std.proofs.shelf.Lists.{getD-take, length-take-le, length-map}
-use Rattle.std.proofs.shelf.Tests.{cases-bool, and-from, and-parts, ltb-true, eqb-true, eq-eqb, false≢true}
-use Rattle.std.specs.Options.{Cases}
+use Rattle.std.proofs.shelf.Tests.{cases-bool, and-from, and-parts, ltb-true, eqb-true, eq-eqb, eqb-false, not-true, false≢true}
 use Rattle.std.specs.Slices.{found}
-use Rattle.std.specs.declared.result.Result.{Result}
 use Rattle.std.specs.declared.result.Result.the-variants.{Ok, Err}
 use Rattle.plans.specs.declared.fault.Fault.{Fault}
 use Rattle.plans.specs.declared.fault.Fault.the-variants as fault
@@ -44,11 +42,12 @@ link-here r j h = getD-take (r .«link_count») (r .links) j noLink h
 pub link-sound : (r : Record) (j : ℕ) → j < r .«link_count» → Sound-link (r .tasks .count) (getD (r .links) j noLink)
 link-sound r j h = subst (Sound-link (r .tasks .count)) (link-here r j h) (good-link-at (r .tasks .count) (linksOf r) j noLink (r .good) (omega (arith, links-long r)))
 
-pub join-parts : (n : ℕ) (e : Ends) → join n e ≡ true → (e .from < n) × (e .to < n) × (not (eqb (e .from) (e .to)) ≡ true)
+-- ends that join two of n tasks
+pub join-parts : (n : ℕ) (e : Ends) → join n e ≡ true → (e .from < n) × (e .to < n) × (e .from ≡ e .to → ⊥)
 join-parts n e h =
     let a = and-parts (ltb (e .from) n && ltb (e .to) n) (not (eqb (e .from) (e .to))) h in
     let b = and-parts (ltb (e .from) n) (ltb (e .to) n) (a .0) in
-    (ltb-true (e .from) n (b .0), ltb-true (e .to) n (b .1), a .1)
+    (ltb-true (e .from) n (b .0), ltb-true (e .to) n (b .1), eqb-false (e .from) (e .to) (not-true (eqb (e .from) (e .to)) (a .1)))
 
 -- the test of ends decides their equality
 side-is : (a b : Side) → sameSide a b ≡ true → a ≡ b

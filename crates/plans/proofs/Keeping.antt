@@ -1,18 +1,17 @@
 -- An accepted record describes a plan that keeps the rules.
-use Prim.Native.Nat.{ℕ, zero, suc, _+_, _^_, _<_, _≤_}
+use Prim.Native.Nat.{ℕ, zero, suc, _^_, _<_, _≤_}
 use mathlib.Core.Path.{_≡_, refl, sym, ap, _∙_, subst}
 use mathlib.Core.Bool.{Bool, true, false, not}
 use mathlib.Core.List.{List, [], _∷_, map}
-use mathlib.Core.Logic.{inl, inr, ⊎-elim}
+use mathlib.Core.Logic.{⊎-elim}
 use native.Mathlib.Omega.{arith}
-use lib.Dec.{eqb}
 use lib.ListN.{length, getD}
 use Rattle.std.specs.Options.{mapped}
 use Rattle.std.specs.shelf.Maps.{nth}
 use Rattle.std.proofs.shelf.Lists.{length-map, length-take-le}
-use Rattle.std.proofs.shelf.Maps.{nth-past, nth-getD}
+use Rattle.std.proofs.shelf.Maps.{nth-getD}
 use Rattle.std.proofs.shelf.Digits.{number-lt}
-use Rattle.std.proofs.shelf.Tests.{cases-bool, cases-lt, eq-eqb, false≢true}
+use Rattle.std.proofs.shelf.Tests.{cases-lt, false≢true}
 use Rattle.std.specs.declared.option.Option.{Option}
 use Rattle.std.specs.declared.option.Option.the-variants.{Some, None}
 use Rattle.plans.specs.declared.param.Param.{Param}
@@ -35,13 +34,13 @@ use Rattle.plans.specs.declared.record.Record.{Record}
 use Rattle.plans.specs.Decoded.{linksOf, shown}
 use Rattle.plans.proofs.Fields.{onOk-ok}
 use Rattle.plans.specs.Order.{Ordered}
-use Rattle.plans.specs.Plan.{Plan, Link, KeepsLink, Keeps, wordsOf, taskCount, placeOf}
+use Rattle.plans.specs.Plan.{Link, KeepsLink, Keeps, wordsOf, taskCount}
 use Rattle.plans.specs.Orders.{Within}
 use Rattle.plans.specs.Meaning.{taskWords, planLink, planOf, partsOr}
-use Rattle.plans.proofs.Places.{nth-map, nth-within, mapped-some, placeIn-found}
+use Rattle.plans.proofs.Places.{nth-map, nth-within, mapped-some}
 use Rattle.plans.proofs.Mixed.{tupleAt}
 use Rattle.plans.proofs.Words.{length-words, nth-words, length-tupleAt, under-tupleAt, words-differ}
-use Rattle.plans.proofs.Accepted.{Sound, good-at, Sound-link, good-link-at}
+use Rattle.plans.proofs.Accepted.{Sound, good-at, good-link-at}
 use Rattle.plans.proofs.First.{first-some, none-is}
 use Rattle.plans.proofs.Held.{links-long, join-parts, ends-same}
 use Rattle.plans.proofs.Landing.{target-lands}
@@ -186,7 +185,7 @@ module _ (p : Parts) (f : Facts p) where
       record {
         from-known = omega (arith, e .0, length-map (p .tasks) taskWords);
         to-known = omega (arith, e .1, length-map (p .tasks) taskWords);
-        apart = λ same. false≢true (sym (ap not (eq-eqb (l .ends .from) (l .ends .to) same)) ∙ e .2);
+        apart = e .2;
         replies = replies p (f .read) j h;
         lands = λ i w r. (let q = landed from to (l .rules) i w r in ap isSome (ap (λ ws. placeIn ws w) there ∙ q .1));
         first-ones = λ i k w le r q. none-then-some from to (l .rules) o i k w le r q;

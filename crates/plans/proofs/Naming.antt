@@ -1,19 +1,18 @@
 -- The names of a record lie within it.
 use Prim.Native.Nat.{ℕ, zero, suc, _+_, _*_, _/_, _<_, _≤_}
 use mathlib.Core.Path.{_≡_, refl, sym, ap, _∙_, subst}
-use mathlib.Core.Bool.{Bool, true, false, cond, _&&_}
+use mathlib.Core.Bool.{Bool, true, _&&_}
 use mathlib.Core.List.{List, [], _∷_}
 use mathlib.Core.Logic.{inl, inr}
 use native.Mathlib.Omega.{arith}
 use lib.Dec.{leb, ltb}
 use lib.ListN.{length, getD}
 use Rattle.std.specs.shelf.Lists.{All}
-use Rattle.std.proofs.shelf.Lists.{length-take-le, getD-take, length-take, length-drop}
+use Rattle.std.proofs.shelf.Lists.{length-take-le, getD-take}
 use Rattle.std.proofs.shelf.Tests.{cases-bool, and-from, and-parts, le-leb, leb-true, ltb-false}
 use Rattle.std.specs.declared.result.Result.{Result}
 use Rattle.std.specs.declared.result.Result.the-variants.{Ok, Err}
 use Rattle.bits.specs.Bits.{bits}
-use Rattle.bits.specs.Fields.{fieldAt}
 use Rattle.bits.proofs.Bits.{length-bits}
 use Rattle.plans.specs.declared.fault.Fault.{Fault}
 use Rattle.plans.specs.declared.fault.Kind.{Kind}
@@ -22,14 +21,14 @@ use Rattle.plans.specs.declared.record.Record.{Record}
 use Rattle.plans.specs.declared.shapes.Letter.{Letter}
 use Rattle.plans.specs.declared.shapes.Name.{Name}
 use Rattle.plans.specs.declared.shapes.Counts.{Counts}
-use Rattle.plans.specs.Reads.{Read, onOk, next, unless, give, times, lifted, number, numberThat}
+use Rattle.plans.specs.Reads.{next, unless, give, times, number, numberThat}
 use Rattle.plans.specs.Layout.{Parts, letter, name, task, link, padding, body, counts, ended, parts, fields}
 use Rattle.plans.specs.Record.{checked}
 use Rattle.plans.specs.Accepted.{insideAll}
 use Rattle.plans.specs.Names.{noName}
 use Rattle.plans.specs.Decoded.{shown}
 use Rattle.plans.specs.Meaning.{partsOr}
-use Rattle.plans.proofs.Fields.{onOk-ok, numberThat-ok, times-ok}
+use Rattle.plans.proofs.Fields.{onOk-ok, times-ok}
 use Rattle.plans.proofs.Keeping.{checked-ok}
 
 -- a field ends behind its width, within the bytes

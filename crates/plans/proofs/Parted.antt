@@ -1,12 +1,11 @@
 -- The parts that are read from a record, and the description that it is the writing of.
-use Prim.Native.Nat.{ℕ, _<_}
 use mathlib.Core.Path.{_≡_}
-use mathlib.Core.List.{List, map}
+use mathlib.Core.List.{map}
 use lib.ListN.{length}
 use Rattle.std.specs.shelf.Lists.{All}
 use Rattle.plans.specs.declared.shapes.Params.{Params}
 use Rattle.plans.specs.Layout.{Parts, filled, filledBy, noRule}
-use Rattle.plans.specs.Description.{Task, Link, Description}
+use Rattle.plans.specs.Description.{Task, Description}
 
 abbrev pub shaped : Task → Params
 shaped t = record { each = filled (t .params); used = length (t .params) }

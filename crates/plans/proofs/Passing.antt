@@ -1,8 +1,8 @@
 -- A record whose fields are in order passes the late checks where its plan keeps the rules of plans.
-use Prim.Native.Nat.{ℕ, zero, suc, _+_, _<_, _≤_}
+use Prim.Native.Nat.{ℕ, zero, suc, _<_, _≤_}
 use mathlib.Core.Path.{_≡_, refl, sym, ap, _∙_, subst}
 use mathlib.Core.Bool.{Bool, true, false, not, _&&_}
-use mathlib.Core.List.{List, [], _∷_, map}
+use mathlib.Core.List.{List, [], _∷_}
 use mathlib.Core.Logic.{inl, inr}
 use native.Mathlib.Omega.{arith}
 use lib.Dec.{leb, eqb}
@@ -13,15 +13,15 @@ use Rattle.std.proofs.shelf.Maps.{nth-getD}
 use Rattle.std.proofs.shelf.Tests.{cases-bool, and-parts, leb-true, false≢true}
 use Rattle.std.specs.declared.option.Option.{Option}
 use Rattle.std.specs.declared.option.Option.the-variants.{Some, None}
-use Rattle.std.specs.declared.result.Result.the-variants.{Ok, Err}
+use Rattle.std.specs.declared.result.Result.the-variants.{Ok}
 use Rattle.plans.specs.declared.fault.Kind.the-variants as kind
 use Rattle.plans.specs.declared.shapes.Counts.{Counts}
-use Rattle.plans.specs.Lists.{andThen, placeIn}
+use Rattle.plans.specs.Lists.{placeIn}
 use Rattle.plans.specs.Words.{words}
 use Rattle.plans.specs.Targets.{targetAt}
 use Rattle.plans.specs.Reads.{times, numberThat}
 use Rattle.plans.specs.Layout.{Parts, taskOf, task, link, padding, name, counts, body, ended, parts, fields}
-use Rattle.plans.specs.Order.{Ordered, rising, placeOfTarget, placesOf}
+use Rattle.plans.specs.Order.{Ordered, placeOfTarget, placesOf}
 use Rattle.plans.specs.Record.{linkAt, sameEnds, firstBelow, repeats, unordered, orFault, late}
 use Rattle.plans.specs.Plan.{Keeps, KeepsLink, placeOf}
 use Rattle.plans.specs.Meaning.{planLink, planOf}

@@ -1,5 +1,5 @@
 -- What the questions about a packed plan are answered with.
-use Prim.Native.Nat.{ℕ, _+_, _<_, _≤_}
+use Prim.Native.Nat.{ℕ, _<_, _≤_}
 use mathlib.Core.Path.{_≡_, refl, sym, ap, _∙_}
 use mathlib.Core.List.{List, [], map}
 use native.Mathlib.Omega.{arith}
@@ -18,7 +18,7 @@ use Rattle.plans.specs.declared.link.Joined.{Joined}
 use Rattle.plans.specs.Lists.{andThen, placeIn}
 use Rattle.plans.specs.Words.{words, wordOf, valuesOf}
 use Rattle.plans.specs.Targets.{targetAt, valuesFor}
-use Rattle.plans.specs.Layout.{noTask, taskOf, Parts}
+use Rattle.plans.specs.Layout.{noTask, taskOf}
 use Rattle.plans.specs.Record.{noLink, linkAt}
 use Rattle.plans.specs.Decoded.{tasksOf, linksOf, shown, Joins}
 use Rattle.plans.specs.Plan.{Plan, taskCount, wordsOf, wordCount, linkCount, linkEnds, target, placeOf}

@@ -1,13 +1,13 @@
 -- Links, the padding, names and counts, back from what is read.
-use Prim.Native.Nat.{ℕ, _/_, _<_, _≤_}
+use Prim.Native.Nat.{ℕ, _/_, _≤_}
 use mathlib.Core.Path.{_≡_, refl, sym, ap, _∙_, subst}
-use mathlib.Core.Bool.{true, _&&_, not}
+use mathlib.Core.Bool.{_&&_}
 use mathlib.Core.List.{List, _++_}
 use native.Mathlib.Omega.{arith}
-use lib.Dec.{leb, ltb, eqb}
+use lib.Dec.{leb, eqb}
 use lib.ListN.{length, replicate}
 use Rattle.std.specs.shelf.Lists.{joined, All}
-use Rattle.std.proofs.shelf.Tests.{leb-true, ltb-true, eqb-true, eqb-false, and-parts, not-true}
+use Rattle.std.proofs.shelf.Tests.{leb-true, eqb-true, and-parts}
 use Rattle.std.specs.declared.result.Result.the-variants.{Ok}
 use Rattle.bits.specs.Bits.{bits, digits}
 use Rattle.bits.proofs.Digits.{digits-zero}
@@ -21,17 +21,11 @@ use Rattle.plans.specs.Reads.{unless, times, numberThat}
 use Rattle.plans.specs.Layout.{filledBy, noRule, rule, ends, taskOf, join, link, toByteEnd, padding, letter, name, counts}
 use Rattle.plans.specs.Description.{Link, Description, ruleBits, endsBits, linkBits, RuleLimits, LinkLimits, taskAt}
 use Rattle.plans.proofs.Fields.{onOk-ok}
+use Rattle.plans.proofs.Held.{join-parts}
 use Rattle.plans.proofs.Naming.{ok-is}
 use Rattle.plans.proofs.Spelling.{Spells, spells-then, numberThat-back}
 use Rattle.plans.proofs.Rows.{Back, times-back}
 use Rattle.plans.proofs.Rereading.{itself, same-rows, unless-back, rule-back, ends-back}
-
--- ends that join two of n tasks
-pub join-parts : (n : ℕ) (e : Ends) → join n e ≡ true → (e .from < n) × (e .to < n) × (e .from ≡ e .to → ⊥)
-join-parts n e h =
-    let a = and-parts (ltb (e .from) n && ltb (e .to) n) (not (eqb (e .from) (e .to))) h in
-    let b = and-parts (ltb (e .from) n) (ltb (e .to) n) (a .0) in
-    (ltb-true (e .from) n (b .0), ltb-true (e .to) n (b .1), eqb-false (e .from) (e .to) (not-true (eqb (e .from) (e .to)) (a .1)))
 
 -- what is seen of a link, in the description and as it is read
 abbrev pub linkSeen : Link → Ends × List Rule

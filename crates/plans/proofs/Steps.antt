@@ -1,7 +1,6 @@
 -- One turn of the loops over a task's parameters.
 use Prim.Native.Nat.{ℕ, zero, suc, _+_, _-_, _*_, _/_, _%_, _^_, _<_, _≤_}
-use mathlib.Core.Path.{_≡_, refl, sym, ap, subst, _∙_}
-use mathlib.Core.Bool.{false}
+use mathlib.Core.Path.{_≡_, sym, ap, subst, _∙_}
 use mathlib.Core.List.{List, [], _∷_}
 use mathlib.Core.Logic.{inl, inr}
 use native.Mathlib.Omega.{arith}
@@ -10,21 +9,14 @@ use lib.ListN.{length, getD, set, drop}
 use Rattle.std.proofs.shelf.Lists.{at-drop-more, drop-more, drop-set}
 use Rattle.std.proofs.shelf.Bits.{mul-le}
 use Rattle.std.proofs.shelf.Tests.{cases-lt}
-use Rattle.std.specs.declared.option.Option.{Option}
-use Rattle.std.specs.declared.option.Option.the-variants.{Some, None}
 use Rattle.plans.specs.declared.param.Param.{Param}
 use Rattle.plans.specs.Lists.{andThen}
 use Rattle.plans.specs.Words.{base, size, count, valueAt, turnOf, wordOf}
-use Rattle.plans.proofs.Turns.{value-of-turn}
 use Rattle.plans.proofs.Mixed.{tupleAt, placeFrom, left-positive, right-positive}
 
 pub count-step : (ps : List Param) (i : ℕ) (d : Param) → i < length ps → count (drop i ps) ≡ size (getD ps i d) * count (drop (i + 1) ps)
 unfolding count
 count-step ps i d h = at-drop-more count ps i d h
-
--- what an access reads past the end
-abbrev pub noParam : Param
-noParam = record { low = 0; high = 0; down = false }
 
 -- what is left of parameters that have words has words, and so has each
 pub some-left : (ps : List Param) (i : ℕ) → 0 < count ps → 0 < count (drop i ps)
@@ -45,13 +37,6 @@ pub total-again : (ps : List Param) (i : ℕ) (d : Param) (t s : ℕ) → i < le
 total-again ps i d t s h es e =
     let c = count (drop (i + 1) ps) in
     mul-assoc t s c ∙ ap (λ n. t * n) (ap (λ n. n * c) es ∙ sym (count-step ps i d h)) ∙ e
-
-pub total-step : (ps : List Param) (i : ℕ) (d : Param) (t s : ℕ) → 0 < count ps → i < length ps → s ≡ size (getD ps i d) → t * count (drop i ps) ≡ count ps
-    → (t * s * count (drop (i + 1) ps) ≡ count ps) × (t * s ≤ count ps)
-total-step ps i d t s some h es e =
-    let c = count (drop (i + 1) ps) in
-    let all : t * s * c ≡ count ps = total-again ps i d t s h es e in
-    (all, factor (t * s) c (count ps) (some-left ps (i + 1) some) (omega arith))
 
 pub digit-step : (ps : List Param) (vs : List ℕ) (place rest k j s v : ℕ) (d : Param)
     → k + 1 ≡ j → k < length ps → k < length vs → s ≡ size (getD ps k d) → v ≡ valueAt (getD ps k d) (rest % s)

@@ -2,15 +2,12 @@
 use Prim.Native.Nat.{ℕ, _+_, _-_, _^_, _<_, _≤_}
 use mathlib.Core.Path.{_≡_}
 use mathlib.Core.Bool.{cond}
-use mathlib.Core.List.{List, [], _∷_, _++_, map}
+use mathlib.Core.List.{List, [], _++_}
 use mathlib.Core.Logic.{_⊎_}
 use lib.IntN.{ℤ, pos, negsuc}
 use lib.Signed.{_≤ℤ_}
 use lib.ListN.{length, getD, replicate}
 use Rattle.std.specs.shelf.Lists.{joined, All}
-use Rattle.std.specs.shelf.Maps.{nth}
-use Rattle.std.specs.declared.option.Option.{Option}
-use Rattle.std.specs.declared.option.Option.the-variants.{Some}
 use Rattle.bits.specs.Bits.{digits}
 use Rattle.plans.specs.declared.param.Param.{Param}
 use Rattle.plans.specs.declared.rule.Rule.{Rule}

@@ -4,9 +4,7 @@ use mathlib.Core.Path.{_≡_}
 use mathlib.Core.Bool.{Bool, true, false, _&&_, _||_}
 use mathlib.Core.List.{List, [], _∷_}
 use lib.Dec.{eqb}
-use Rattle.std.specs.declared.option.Option.{Option}
-use Rattle.std.specs.declared.option.Option.the-variants.{Some, None}
-use Rattle.plans.specs.declared.ends.Side.{Side}
+use Rattle.std.specs.declared.option.Option.the-variants.{Some}
 use Rattle.plans.specs.declared.ends.Side.the-variants.{Start, Finish}
 use Rattle.plans.specs.declared.ends.Ends.{Ends}
 use Rattle.plans.specs.declared.event.Event.{Event}

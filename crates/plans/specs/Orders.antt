@@ -4,8 +4,7 @@ use mathlib.Core.Path.{_≡_}
 use mathlib.Core.List.{List, [], _∷_}
 use lib.ListN.{length, getD}
 use Rattle.std.specs.shelf.Maps.{nth}
-use Rattle.std.specs.declared.option.Option.{Option}
-use Rattle.std.specs.declared.option.Option.the-variants.{Some, None}
+use Rattle.std.specs.declared.option.Option.the-variants.{Some}
 use Rattle.plans.specs.declared.ends.Side.{Side}
 use Rattle.plans.specs.declared.ends.Side.the-variants.{Start, Finish}
 use Rattle.plans.specs.declared.ends.Ends.{Ends}

@@ -2,7 +2,7 @@
 use Prim.Native.Nat.{ℕ, _<_, _≤_, _^_}
 use mathlib.Core.Path.{_≡_}
 use mathlib.Core.List.{List, []}
-use mathlib.Core.Bool.{Bool, true}
+use mathlib.Core.Bool.{true}
 use base.Stored.{coded-set, codedℕ, codedBool}
 use mathlib.Core.Logic.{∥∥₁-elim}
 use std.HLevel.{⊥-prop}

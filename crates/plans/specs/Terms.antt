@@ -1,14 +1,12 @@
 -- The order that a description describes, with its parameters and valuations; and which byte strings are accepted.
 use Prim.Native.Nat.{ℕ, _+_, _-_, _≤_}
 use mathlib.Core.Path.{_≡_}
-use mathlib.Core.Bool.{true}
 use mathlib.Core.List.{List, [], _∷_, _++_, map}
 use lib.IntN.{pos}
 use lib.ListN.{length, getD, replicate}
 use Rattle.std.specs.Orderings.{Decides}
 use Rattle.std.specs.Results.{isOk}
 use Rattle.std.specs.shelf.Maps.{nth}
-use Rattle.std.specs.declared.option.Option.{Option}
 use Rattle.std.specs.declared.option.Option.the-variants.{Some}
 use Rattle.bits.specs.Bits.{bits}
 use Rattle.plans.specs.declared.param.Param.{Param}
@@ -20,7 +18,7 @@ use Rattle.plans.specs.Targets.{quotient, sum}
 use Rattle.plans.specs.Ppo.{EventType, Structure, Valued, Valuation, Ppo, Restricted, Precedes}
 use Rattle.plans.specs.Plan.{Plan}
 use Rattle.plans.specs.Orders.{Edge, turn, link, Has, leaves, enters, noEnds, orderOf}
-use Rattle.plans.specs.Description.{Task, Link, Description, taskAt, written, Limits}
+use Rattle.plans.specs.Description.{Link, Description, taskAt, written, Limits}
 use Rattle.plans.specs.Record.{checked}
 
 -- the domain of a parameter

@@ -4,8 +4,6 @@ use mathlib.Core.List.{List, [], _∷_, map, reverse}
 use mathlib.Core.Bool.{Bool, true, cond, _&&_, _||_}
 use mathlib.Core.Path.{_≡_}
 use lib.Dec.{ltb}
-use lib.ListN.{length}
-use Rattle.std.specs.shelf.Maps.{nth}
 use Rattle.std.specs.Iters.{counting}
 use Rattle.std.specs.shelf.Lists.{joined}
 use Rattle.std.specs.shelf.Digits.{number}

@@ -76,11 +76,7 @@ impl Task {
     pub(crate) fn word_count(&self) -> u32
         ensures { λ r. ⌜ r ≡ length (words (now (self .entry) .params)) ⌝ }
     {
-        let mut total = 1;
-        for i in 0..4 {
-            total *= self.params[i].size();
-        }
-        total
+        product(&self.params) as u32
     }
 
     // The word at a place.

@@ -1,27 +1,26 @@
 -- The plan whose events wait for each other.
 use Prim.Native.Nat.{ℕ, zero, suc}
 use mathlib.Core.Path.{_≡_, refl, sym, ap, _∙_, subst}
-use mathlib.Core.Bool.{Bool, true, false, _&&_, _||_, cond}
+use mathlib.Core.Bool.{true, false}
 use mathlib.Core.List.{List, [], _∷_}
 use mathlib.Core.Logic.{_⊎_, inl, inr}
 use native.Mathlib.Omega.{arith}
 use lib.Dec.{eqb}
-use Rattle.std.proofs.shelf.Tests.{cases-bool, and-parts, and-from, or-cases, or-left, or-right, eqb-true, eq-eqb, false≢true, both-ways}
+use Rattle.std.proofs.shelf.Tests.{cases-bool, and-parts, or-cases, or-right, eqb-true, false≢true, both-ways}
 use Rattle.std.specs.Options.{valueOr}
 use Rattle.std.specs.declared.option.Option.{Option}
-use Rattle.std.specs.declared.option.Option.the-variants.{Some, None}
+use Rattle.std.specs.declared.option.Option.the-variants.{Some}
 use Rattle.bits.specs.Bits.{bits}
 use Rattle.plans.specs.declared.ends.Side.{Side}
 use Rattle.plans.specs.declared.ends.Side.the-variants.{Start, Finish}
-use Rattle.plans.specs.declared.ends.Ends.{Ends}
 use Rattle.plans.specs.declared.event.Event.{Event}
 use Rattle.plans.specs.Words.{tuples, count}
 use Rattle.plans.specs.Targets.{quotient}
 use Rattle.plans.specs.Record.{checked, sameSide}
 use Rattle.plans.specs.Lists.{andThen, placeIn}
-use Rattle.plans.specs.Plan.{Plan, Link, placeOf, nextWord, linkEnds, target}
-use Rattle.plans.specs.Events.{Of-plan, between, Rests, own-start, one-earlier, by-link, sameEvent, among, Secured, none, more, Configuration}
-use Rattle.worked.specs.Orders.{circled, circle, event, everything, Worked-orders}
+use Rattle.plans.specs.Plan.{Plan, Link, nextWord, linkEnds, target}
+use Rattle.plans.specs.Events.{between, Rests, own-start, one-earlier, by-link, sameEvent, among, Secured, none, more, Configuration}
+use Rattle.worked.specs.Orders.{circle, event, everything, Worked-orders}
 
 -- the plan, written out
 abbrev joint : ℕ → ℕ → Link

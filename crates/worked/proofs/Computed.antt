@@ -1,5 +1,5 @@
 -- The worked records, computed from the definitions.
-use mathlib.Core.Path.{_≡_, refl}
+use mathlib.Core.Path.{refl}
 use Rattle.bits.specs.Bits.{bits}
 use Rattle.plans.specs.Words.{tuples, count}
 use Rattle.plans.specs.Targets.{quotient}

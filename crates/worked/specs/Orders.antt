@@ -1,7 +1,7 @@
 -- A plan whose events wait for each other.
 use Prim.Native.Nat.{ℕ}
 use mathlib.Core.Path.{_≡_}
-use mathlib.Core.Bool.{Bool, true}
+use mathlib.Core.Bool.{true}
 use mathlib.Core.List.{List, [], _∷_}
 use Rattle.std.specs.Results.{isOk}
 use Rattle.plans.specs.declared.ends.Side.{Side}

@@ -1,18 +1,17 @@
 -- What the check of some records answers.
 use Prim.Native.Nat.{ℕ}
 use mathlib.Core.Path.{_≡_}
-use mathlib.Core.Bool.{Bool, true}
+use mathlib.Core.Bool.{true}
 use mathlib.Core.List.{List, [], _∷_, _++_}
 use lib.ListN.{getD, take}
 use Rattle.std.specs.Results.{isOk}
 use Rattle.std.specs.declared.option.Option.{Option}
-use Rattle.std.specs.declared.option.Option.the-variants.{Some, None}
+use Rattle.std.specs.declared.option.Option.the-variants.{Some}
 use Rattle.std.specs.declared.result.Result.the-variants.{Err}
 use Rattle.plans.specs.declared.fault.Fault.the-variants.{Bits, Record}
 use Rattle.plans.specs.declared.fault.Kind.the-variants as kind
 use Rattle.plans.specs.declared.ends.Side.the-variants.{Start}
 use Rattle.plans.specs.Record.{checked}
-use Rattle.plans.specs.Plan.{Link}
 use Rattle.plans.specs.Meaning.{meaning}
 
 -- tasks cc and ld run from 1 to 3; finish cc p goes to start ld p, and finish ld p to start cc p + 2

@@ -1,13 +1,11 @@
-use Prim.Native.Nat.{ℕ, _+_, _<_, _≤_}
+use Prim.Native.Nat.{_+_, _<_, _≤_}
 use native.Mathlib.Omega.{arith}
-use mathlib.Core.Path.{_≡_, refl, sym, ap, _∙_}
-use mathlib.Core.Bool.{true, false}
+use mathlib.Core.Path.{sym, ap, _∙_}
 use mathlib.Core.List.{map}
 use lib.ListN.{length, drop}
 use Rattle.std.proofs.shelf.Lists.{length-map, drop-all}
-use Rattle.std.specs.declared.option.Option.the-variants.{Some, None}
 use Rattle.plans.specs.Words.{words}
-use Rattle.plans.specs.Order.{placeOfTarget, targetPlaces, rising}
+use Rattle.plans.specs.Order.{placeOfTarget}
 use Rattle.plans.proofs.Rising.{holds, none-at, some-at, late-at, back-at, none-left}
 use Rattle.plans.proofs.link.Rules.in_order.Needs as need
 use Rattle.plans.proofs.link.Rules.in_order.Needs.{then-ended·by·then-ended, then-ended·by·else-ended·then-place-least}

@@ -1,13 +1,11 @@
-use Prim.Native.Nat.{_<_, _≤_}
 use native.Mathlib.Omega.{arith}
 use mathlib.Core.Path.{_≡_, refl, sym, ap, _∙_}
-use lib.ListN.{length, take, drop}
 use Rattle.std.specs.Options.{mapped}
 use Rattle.std.proofs.shelf.Lists.{length-set}
 use Rattle.std.specs.declared.option.Option.the-variants.{Some, None}
 use Rattle.plans.specs.Words.{wordOf, valuesOf}
-use Rattle.plans.specs.Targets.{valuesFor, targetAt}
-use Rattle.plans.proofs.Steps.{noParam}
+use Rattle.plans.specs.Targets.{valuesFor}
+use Rattle.plans.specs.Layout.{noParam}
 use Rattle.plans.proofs.Targets.{noRule, divides, onto-nil, target-step, target-stop, target-end, targetAt-word}
 use Rattle.plans.proofs.link.Rules.target_at.Needs as need
 

@@ -1,6 +1,4 @@
-use native.Mathlib.Omega.{arith}
 use borrow.Author.Needs.{needs}
-use Rattle.plans.specs.Layout.{noParam}
 use Rattle.plans.proofs.Filling.{filled-of}
 use Rattle.plans.proofs.parts.ParamsPart.read.Needs as need
 

@@ -2,7 +2,7 @@ use native.Mathlib.Omega.{arith}
 use mathlib.Core.Path.{_≡_, sym, ap, _∙_}
 use mathlib.Core.Bool.{true, false, not}
 use lib.ListN.{length}
-use Rattle.plans.specs.Order.{placesOf, targetPlaces, rising}
+use Rattle.plans.specs.Order.{rising}
 use Rattle.plans.specs.Record.{unordered, linkAt}
 use Rattle.plans.specs.Decoded.{tasksOf, linksOf}
 use Rattle.plans.proofs.First.{first-more, first-found}

@@ -1,19 +1,19 @@
-use Prim.Native.Nat.{ℕ, _+_, _*_, _≤_, _<_}
+use Prim.Native.Nat.{_+_, _*_, _≤_, _<_}
 use native.Mathlib.Omega.{arith}
 use native.Mathlib.Nat.{add-mul}
 use Rattle.std.proofs.shelf.Bits.{mul-le}
 use mathlib.Core.Path.{_≡_, refl, sym, ap, _∙_}
-use mathlib.Core.List.{List, []}
+use mathlib.Core.List.{[]}
 use lib.ListN.{length, getD, drop}
 use Rattle.std.proofs.shelf.Lists.{drop-all}
-use Rattle.std.specs.declared.option.Option.{Option}
 use Rattle.std.specs.declared.option.Option.the-variants.{Some, None}
-use Rattle.plans.specs.Lists.{placeIn, andThen}
+use Rattle.plans.specs.Lists.{placeIn}
 use Rattle.plans.specs.Words.{size, count, words, turnOf}
 use Rattle.plans.proofs.Turns.{value-of-turn}
 use Rattle.plans.proofs.Mixed.{placeFrom}
 use Rattle.plans.proofs.Words.{length-words, place-words}
-use Rattle.plans.proofs.Steps.{noParam, room-step, place-step}
+use Rattle.plans.specs.Layout.{noParam}
+use Rattle.plans.proofs.Steps.{room-step, place-step}
 use Rattle.plans.proofs.task.Task.place_of.Needs as need
 
 pub loop-i-holds : need.loop-i-holds

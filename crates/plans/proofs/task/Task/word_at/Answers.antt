@@ -1,17 +1,17 @@
 use Prim.Native.Nat.{ℕ, _-_, _/_, _<_}
 use native.Mathlib.Omega.{arith}
 use native.Mathlib.Nat.{mod-lt}
-use mathlib.Core.Path.{_≡_, refl, sym, ap, subst, _∙_}
-use mathlib.Core.List.{List, []}
-use lib.ListN.{length, getD, drop}
+use mathlib.Core.Path.{_≡_, refl, sym, ap, _∙_}
+use mathlib.Core.List.{[]}
+use lib.ListN.{getD, drop}
 use Rattle.std.proofs.shelf.Lists.{drop-all, length-set}
 use Rattle.std.specs.declared.option.Option.the-variants.{Some}
 use Rattle.plans.specs.declared.task.Task.{Task}
-use Rattle.plans.specs.declared.param.Param.{Param}
 use Rattle.plans.specs.Words.{size, count, wordOf}
 use Rattle.plans.proofs.Mixed.{tupleAt}
 use Rattle.plans.proofs.Words.{nth-words, nth-words-past}
-use Rattle.plans.proofs.Steps.{noParam, some-size, digit-step, below-end, past-end}
+use Rattle.plans.specs.Layout.{noParam}
+use Rattle.plans.proofs.Steps.{some-size, digit-step, below-end, past-end}
 use Rattle.plans.proofs.task.Task.word_at.Needs as need
 
 pub loop-i-holds : need.loop-i-holds

@@ -1,5 +1,5 @@
 use native.Mathlib.Omega.{arith}
-use mathlib.Core.Path.{sym, ap, _∙_, subst}
+use mathlib.Core.Path.{sym, ap, subst}
 use Rattle.std.proofs.shelf.Lists.{getD-take, length-take-le}
 use Rattle.plans.specs.Layout.{noTask}
 use Rattle.plans.specs.Decoded.{tasksOf}

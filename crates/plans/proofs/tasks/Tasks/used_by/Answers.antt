@@ -1,6 +1,4 @@
 use native.Mathlib.Omega.{arith}
-use borrow.Author.Needs.{needs}
-use lib.ListN.{take}
 use Rattle.std.proofs.shelf.Lists.{getD-take, length-take-le}
 use mathlib.Core.Path.{sym, ap}
 use Rattle.plans.specs.Layout.{noTask}
