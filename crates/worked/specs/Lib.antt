@@ -1,3 +1,4 @@
 pub mod Records
 pub mod Orders
 pub mod Worked
+pub mod Runs
