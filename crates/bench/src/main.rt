@@ -1,7 +1,9 @@
-// Times the questions about the plan in plan.bin: `bench questions`.
+// Times the questions about the plan in plan.bin, `bench questions`, and the verdict of a new run on it, `bench verdict`.
 use plans::Packed;
 use plans::PackedSource as _;
 use plans::Source;
+use runs::Outcome;
+use runs::Run;
 use std::env;
 use std::error::AnyError;
 use std::fs;
@@ -80,14 +82,31 @@ fn questions(rt: &LibcRuntime) -> io::Result<()> {
     tell_memory(rt)
 }
 
+// Plays the verdict of a new run, and prints what an event took.
+fn verdict(rt: &LibcRuntime) -> io::Result<()> {
+    let bytes = fs::read(rt, "plan.bin")?;
+    let mut run = Run::open(Packed::new(&bytes));
+    let start = Instant::now(rt)?;
+    let count = match run.verdict(8_388_608) {
+        Ok(Outcome::Finishes(count)) => count,
+        Ok(Outcome::DeadEnd(count)) => count,
+        Err(_) => 0,
+    };
+    let nanos = start.elapsed(rt)?.as_nanos();
+    let each = nanos / u128::from(count.max(1));
+    println!(rt, "{count} events, {each} ns an event")?;
+    tell_memory(rt)
+}
+
 fn run(rt: &LibcRuntime) -> Result<(), AnyError> {
     for word in env::args(rt)?.skip(1) {
-        if word.as_str() == "questions" {
-            questions(rt)?;
-            return Ok(());
+        match word.as_str() {
+            "questions" => return Ok(questions(rt)?),
+            "verdict" => return Ok(verdict(rt)?),
+            _ => break,
         }
     }
-    println!(rt, "usage: bench questions, in a folder with a plan.bin")?;
+    println!(rt, "usage: bench questions, or bench verdict, in a folder with a plan.bin")?;
     Ok(())
 }
 

@@ -1,3 +1,4 @@
+use borrow.Author.Needs.{needs}
 use mathlib.Core.Path.{refl, sym}
 use Prim.Native.Nat.{_<_}
 use native.Mathlib.Omega.{arith}
@@ -12,7 +13,8 @@ returns-then-not-table-task g c =
     let p = g .S·Source .means (c .args .source .now) .plan in
     let ss = c .args .table .now .slots in
     let h : c .loop-task .task < taskCount p = omega (arith, c .task-count-task-end .ensures) in
-    none-below (λ t. slotOf ss t .done) (allDone ss) (λ t. refl) (c .loop-task .task) (taskCount p) h (sym (c .if-not-table-task .taken))
+    let is = none-below (λ t. slotOf ss t .done) (allDone ss) (λ t. refl) (c .loop-task .task) (taskCount p) h (sym (c .if-not-table-task .taken)) in
+    search needs
 
 pub loop-task-again : need.loop-task-again
 loop-task-again g c =
