@@ -11,7 +11,7 @@ ghost use Rattle.std.specs.Results.{isOk};
 ghost use Rattle.std.specs.Vec.{made};
 
 // The bytes end within a field, which begins at the bit `at`.
-#[derive(Clone, Copy, Debug, PartialEq)]
+#[derive(Clone, Copy)]
 pub struct Fault {
     pub at: u128,
 }

@@ -58,7 +58,7 @@ pub impl fmt::Display for Value as ValueDisplay {
 }
 
 // The word for a side.
-pub fn side_word(side: Side) -> &'static str {
+pub(crate) fn side_word(side: Side) -> &'static str {
     match side {
         Side::Start => "start",
         Side::Finish => "finish",

@@ -1,11 +1,9 @@
 // Events of a plan.
 use crate::ends::Side;
-use crate::ends::SideDebug as _;
-use crate::ends::SidePartialEq as _;
 use crate::word::Word;
 
 // The start or the finish of a task at one of its words.
-#[derive(Clone, Copy, Debug, PartialEq)]
+#[derive(Clone, Copy)]
 pub struct Event {
     pub task: usize,
     pub side: Side,

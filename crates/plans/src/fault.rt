@@ -2,11 +2,9 @@
 ghost use mathlib.Core.Path.{_≡_};
 ghost use Rattle.plans.specs.Faults.{numberOf, placeOf};
 ghost use Rattle.plans.specs.declared.fault.Fault.the-variants.{Bits, Record};
-use bits::FaultDebug as _;
-use bits::FaultPartialEq as _;
 
 // What is wrong with a record, by number.
-#[derive(Clone, Copy, Debug, PartialEq)]
+#[derive(Clone, Copy)]
 pub enum Kind {
     // the record ends within a field
     Ended = 1,
@@ -31,7 +29,7 @@ pub enum Kind {
 }
 
 // The one fault of a record that counts.
-#[derive(Clone, Copy, Debug, PartialEq)]
+#[derive(Clone, Copy)]
 pub enum Fault {
     // the bit reader's fault, whole: the record ends within a field
     Bits(bits::Fault),

@@ -23,18 +23,12 @@ mod word;
 
 pub use checks::check;
 pub use ends::Ends;
-pub use ends::EndsDebug;
 pub use ends::EndsPartialEq;
 pub use ends::Side;
-pub use ends::SideDebug;
 pub use ends::SidePartialEq;
 pub use event::Event;
-pub use event::EventDebug;
-pub use event::EventPartialEq;
 pub use fault::Fault;
-pub use fault::FaultDebug;
 pub use fault::FaultFromBits;
-pub use fault::FaultPartialEq;
 pub use fault::Kind;
 pub use packed::Packed;
 pub use packing::PackedSource;

@@ -1,7 +1,7 @@
 // A parameter of a task: a range of values, run through upward or downward.
 use crate::word::Value;
 
-#[derive(Clone, Copy, Debug, PartialEq)]
+#[derive(Clone, Copy)]
 pub struct Param {
     pub low: Value,
     pub high: Value,

@@ -35,14 +35,14 @@ use Rattle.runs.proofs.Stands.{conf-closed, conf-of-plan, post-clear, take-bac
 use Rattle.runs.proofs.Counts.{held-told, next-one, bit-small, rank-side, rank-place}
 
 -- the event at a word that a link goes from
-abbrev source : Link → ℕ → Event
-source k v = event (k .ends .from) (k .ends .«from_side») v
+abbrev origin : Link → ℕ → Event
+origin k v = event (k .ends .from) (k .ends .«from_side») v
 
 -- the event at a word that a link goes to
 abbrev goal : Link → ℕ → Event
 goal k w = event (k .ends .to) (k .ends .«to_side») w
 
-linked : (p : Plan) (l : ℕ) (k : Link) (v w : ℕ) → nth (p .links) l ≡ Some k → gives p k v ≡ Some w → Rests p (goal k w) (source k v)
+linked : (p : Plan) (l : ℕ) (k : Link) (v w : ℕ) → nth (p .links) l ≡ Some k → gives p k v ≡ Some w → Rests p (goal k w) (origin k v)
 linked p l k v w n g = by-link l (ap (λ (o : Option Link). mapped (λ k. k .ends) o) n) (ap (λ (o : Option Link). andThen o (λ k. gives p k v)) n ∙ g)
 
 -- what a link gives, by places
@@ -120,7 +120,7 @@ module _ (p : Plan) (kp : Keeps p) (counts : ℕ → ℕ) (fits : Fits p counts)
   told t = held-told p kp counts t
 
   -- A link that is met has all its sources standing.
-  met-stands : (l : ℕ) (k : Link) (i w v : ℕ) → nth (p .links) l ≡ Some k → placeOf p (k .ends .to) w ≡ Some i → link-met p counts i k ≡ true → gives p k v ≡ Some w → held p counts (source k v) ≡ true
+  met-stands : (l : ℕ) (k : Link) (i w v : ℕ) → nth (p .links) l ≡ Some k → placeOf p (k .ends .to) w ≡ Some i → link-met p counts i k ≡ true → gives p k v ≡ Some w → held p counts (origin k v) ≡ true
   unfolding link-met
   met-stands l k i w v n h m g =
       let kk = kp .links-keep l k n in
@@ -142,7 +142,7 @@ module _ (p : Plan) (kp : Keeps p) (counts : ℕ → ℕ) (fits : Fits p counts)
       (cases-lt (rank (r .0) (k .ends .«from_side»)) (counts u))
 
   -- A link of which all sources up to a place stand is met there.
-  stands-met : (l : ℕ) (k : Link) (i : ℕ) → nth (p .links) l ≡ Some k → ((b x v : ℕ) → b ≤ i → placeOf p (k .ends .to) x ≡ Some b → gives p k v ≡ Some x → held p counts (source k v) ≡ true) → link-met p counts i k ≡ true
+  stands-met : (l : ℕ) (k : Link) (i : ℕ) → nth (p .links) l ≡ Some k → ((b x v : ℕ) → b ≤ i → placeOf p (k .ends .to) x ≡ Some b → gives p k v ≡ Some x → held p counts (origin k v) ≡ true) → link-met p counts i k ≡ true
   unfolding link-met
   stands-met l k i n h = go (wordAt p (k .ends .from) (next-place (k .ends .«from_side») (counts (k .ends .from)))) refl
     where
@@ -185,16 +185,16 @@ module _ (p : Plan) (kp : Keeps p) (counts : ℕ → ℕ) (fits : Fits p counts)
   unfolding links-met
   support-to t i w s h n sup = nth-all _ (p .links) (λ l k e. under _ _ (λ q. stands-met l k i e (each l k e (type-true _ _ q))))
     where
-      each : (l : ℕ) (k : Link) → nth (p .links) l ≡ Some k → toType (k .ends) ≡ eventType t s → (b x v : ℕ) → b ≤ i → placeOf p (k .ends .to) x ≡ Some b → gives p k v ≡ Some x → held p counts (source k v) ≡ true
+      each : (l : ℕ) (k : Link) → nth (p .links) l ≡ Some k → toType (k .ends) ≡ eventType t s → (b x v : ℕ) → b ≤ i → placeOf p (k .ends .to) x ≡ Some b → gives p k v ≡ Some x → held p counts (origin k v) ≡ true
       each l k e q b x v le pl g =
-          let rs : Rests p (event t s x) (source k v) = subst (λ (y : EventType). Rests p (event (y .task) (y .side) x) (source k v)) q (linked p l k v x e g) in
+          let rs : Rests p (event t s x) (origin k v) = subst (λ (y : EventType). Rests p (event (y .task) (y .side) x) (origin k v)) q (linked p l k v x e g) in
           let xw = place-word p t b x (subst (λ (y : EventType). placeOf p (y .task) x ≡ Some b) q pl) in
           ⊎-elim
-          (λ lt. conf-closed p (held p counts) conf (event t s x) (source k v) (told t b x s xw ∙ lt-ltb _ _ (omega arith)) rs)
+          (λ lt. conf-closed p (held p counts) conf (event t s x) (origin k v) (told t b x s xw ∙ lt-ltb _ _ (omega arith)) rs)
           (λ ge.
           let z : b ≡ i = omega arith in
           let y : x ≡ w = some-eq x w (sym xw ∙ ap (wordAt p t) z ∙ h) in
-          sup (source k v) (subst (λ (y : ℕ). Rests p (event t s y) (source k v)) y rs))
+          sup (origin k v) (subst (λ (y : ℕ). Rests p (event t s y) (origin k v)) y rs))
           (cases-lt b i)
 
   pub supports-by : (t i w : ℕ) (s : Side) → wordAt p t i ≡ Some w → held p counts (event t s w) ≡ false
