@@ -106,7 +106,10 @@ fn run(rt: &LibcRuntime) -> Result<(), AnyError> {
             _ => break,
         }
     }
-    println!(rt, "usage: bench questions, or bench verdict, in a folder with a plan.bin")?;
+    println!(
+        rt,
+        "usage: bench questions, or bench verdict, in a folder with a plan.bin"
+    )?;
     Ok(())
 }
 
