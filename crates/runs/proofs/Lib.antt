@@ -13,6 +13,8 @@ pub mod Slots
 pub mod Laws
 pub mod Facts
 pub mod Limits
+pub mod Wakes
+pub mod Into
 pub mod Rows
 pub mod Steps
 pub mod Answered

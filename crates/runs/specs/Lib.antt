@@ -4,5 +4,6 @@ pub mod Calls
 pub mod Laws
 pub mod Slots
 pub mod Limit
+pub mod Routes
 pub mod Play
 pub mod Shows

@@ -2,9 +2,11 @@
 use mathlib.Core.List.{List}
 use mathlib.Core.Bool.{cond}
 use Prim.Native.Nat.{ℕ, zero, suc, min}
+use lib.Dec.{ltb}
 use Rattle.std.specs.declared.option.Option.{Option}
-use Rattle.std.specs.declared.option.Option.the-variants.{None}
+use Rattle.std.specs.declared.option.Option.the-variants.{Some, None}
 use Rattle.std.specs.Options.{valueOr}
+use Rattle.plans.specs.declared.event.Event.{Event}
 use Rattle.plans.specs.Ppo.{EventType}
 use Rattle.plans.specs.declared.ends.Side.{Side}
 use Rattle.plans.specs.declared.ends.Side.the-variants.{Start, Finish}
@@ -13,7 +15,7 @@ use Rattle.plans.specs.Plan.{Plan, placeOf, linkEnds, target}
 use Rattle.plans.specs.Orders.{toType}
 use Rattle.runs.specs.Order.{sameType}
 use Rattle.runs.specs.declared.table.Slot.{Slot}
-use Rattle.runs.specs.Slots.{slotOf, nextOf}
+use Rattle.runs.specs.Slots.{maybe, slotOf, nextOf, slotEvent}
 
 -- the place from which on the link l holds back the events of the type, or nothing
 abbrev pub linkBound : Plan → List Slot → EventType → ℕ → Option ℕ
@@ -30,3 +32,7 @@ limit p slots a (suc l) = min (limit p slots a l) (valueOr (linkBound p slots a 
 abbrev pub bySide : Side → ℕ → ℕ → ℕ
 bySide Start a b = a
 bySide Finish a b = b
+
+-- the event to come of a slot of task t whose word has the place i, where this is below the limit of its side
+abbrev pub nextBelow : ℕ → Slot → ℕ → ℕ → ℕ → Option Event
+nextBelow t s i start finish = maybe (slotEvent t s) None (λ e. cond (ltb i (bySide (e .side) start finish)) (Some e) None)

@@ -7,7 +7,7 @@ ghost use Rattle.plans.specs.Orders.{fromType, toType, typeOf};
 ghost use Rattle.std.specs.Results.{isOk};
 ghost use Rattle.runs.specs.Order.{eventType, sameType};
 ghost use Rattle.runs.specs.Slots.{rank as rank-of, slotOf, slotCount, nextOf, linkMetBy, linksMetBy, linkFreeBy, linksFreeBy, postBy, takeBackBy, readyOf};
-ghost use Rattle.runs.specs.Limit.{linkBound, limit as limit-of};
+ghost use Rattle.runs.specs.Limit.{linkBound};
 use crate::refusal::Refusal;
 use crate::table::Slot;
 use crate::table::Table;
@@ -204,7 +204,13 @@ pub(crate) fn ready_event<S: Source>(source: &S, table: &Table, task: usize) -> 
 }
 
 // The place from which on a link holds back the events of a task and a side.
-fn bound<S: Source>(source: &S, table: &Table, task: usize, side: Side, link: usize) -> Option<u32>
+pub(crate) fn bound<S: Source>(
+    source: &S,
+    table: &Table,
+    task: usize,
+    side: Side,
+    link: usize,
+) -> Option<u32>
     ensures { λ r. ⌜ r ≡ linkBound (means (now (source .entry)) .plan) (now (table .entry) .slots) (eventType task side) link ⌝ }
 {
     let ends = source.ends(link)?;
@@ -214,15 +220,4 @@ fn bound<S: Source>(source: &S, table: &Table, task: usize, side: Side, link: us
     let word = next_word_of(source, table, ends.from, ends.from_side)?;
     let target = source.target(link, word)?;
     source.place_of(task, target)
-}
-
-// The place from which on some link does.
-pub(crate) fn limit<S: Source>(source: &S, table: &Table, task: usize, side: Side) -> u32
-    ensures { λ r. ⌜ r ≡ limit-of (means (now (source .entry)) .plan) (now (table .entry) .slots) (eventType task side) (linkCount (means (now (source .entry)) .plan)) ⌝ }
-{
-    let mut low: u32 = 65536;
-    for link in 0..source.link_count() {
-        low = low.min(bound(source, table, task, side, link).unwrap_or(65536));
-    }
-    low
 }

@@ -5,6 +5,7 @@ mod guard;
 mod list;
 mod play;
 mod refusal;
+mod routes;
 mod run;
 mod table;
 

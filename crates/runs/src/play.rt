@@ -1,17 +1,19 @@
 // Entering events in a table, and playing the remaining ones.
 ghost use mathlib.Core.Path.{_≡_};
-ghost use Prim.Native.Nat.{_<_, _≤_};
+ghost use Prim.Native.Nat.{ℕ, _<_, _≤_};
 ghost use Rattle.std.specs.declared.option.Option.the-variants.{None};
 ghost use Rattle.plans.specs.Plan.{taskCount, linkCount};
-ghost use Rattle.plans.specs.declared.ends.Side.the-variants.{Start, Finish};
-ghost use Rattle.runs.specs.Order.{eventType};
-ghost use Rattle.runs.specs.Limit.{limit as limit-of, bySide};
-ghost use Rattle.runs.specs.Slots.{entered, postBy, postedBy, takeBackBy, takenBackBy, readyOf};
+ghost use Rattle.runs.specs.Limit.{bySide, nextBelow};
+ghost use Rattle.runs.specs.Routes.{Routed, Rested};
+ghost use Rattle.runs.specs.Slots.{entered, postBy, postedBy, takeBackBy, takenBackBy, readyOf, slotOf};
 ghost use Rattle.runs.specs.Play.{Played, Stuck, allDone};
 use crate::checks::check_post;
 use crate::checks::check_take_back;
-use crate::checks::limit;
 use crate::refusal::Refusal;
+use crate::routes::Limits;
+use crate::routes::Routes;
+use crate::routes::limits_of;
+use crate::routes::routes_of;
 use crate::table::Table;
 use plans::Event;
 use plans::Side;
@@ -66,22 +68,13 @@ fn of_side(side: Side, start: u32, finish: u32) -> u32
     }
 }
 
-// The ready event of a task whose limits are known.
-fn next_below<S: Source>(
-    source: &S,
-    table: &Table,
-    task: usize,
-    start: u32,
-    finish: u32,
-) -> Option<Event>
-    requires known { ⌜ task < taskCount (means (now source) .plan) ⌝ }
-    requires start { ⌜ start ≡ limit-of (means (now source) .plan) (now table .slots) (eventType task Start) (linkCount (means (now source) .plan)) ⌝ }
-    requires finish { ⌜ finish ≡ limit-of (means (now source) .plan) (now table .slots) (eventType task Finish) (linkCount (means (now source) .plan)) ⌝ }
-    ensures { λ r. ⌜ r ≡ readyOf (means (now (source .entry)) .plan) (now (table .entry) .slots) task ⌝ }
+// The event to come of a task, where the place of its word is below the limit of its side.
+fn next_below(table: &Table, task: usize, place: u32, limits: Limits) -> Option<Event>
+    requires { ⌜ task < 64 ⌝ }
+    ensures { λ r. ⌜ r ≡ nextBelow task (slotOf (now (table .entry) .slots) task) place (limits .start) (limits .finish) ⌝ }
 {
     let event = table.slots[task].event(task)?;
-    let place = source.place_of(task, event.word)?;
-    if place < of_side(event.side, start, finish) {
+    if place < of_side(event.side, limits.start, limits.finish) {
         Some(event)
     } else {
         None
@@ -92,34 +85,79 @@ fn next_below<S: Source>(
 fn play_task<S: Source>(
     source: &S,
     table: &mut Table,
+    routes: &Routes,
     task: usize,
     mut count: u32,
     budget: u32,
 ) -> Option<u32>
     requires known { ⌜ task < taskCount (means (now source) .plan) ⌝ }
+    requires routed { ⌜ Routed (means (now source) .plan) (linkCount (means (now source) .plan)) (now routes .last) (now routes .before) (now routes .next) ⌝ }
     requires within { ⌜ count ≤ budget ⌝ }
-    ensures { λ r. ⌜ Played (means (now (source .entry)) .plan) (now (table .entry) .slots) count budget (now (table .exit) .slots) r (λ _. readyOf (means (now (source .entry)) .plan) (now (table .exit) .slots) task ≡ None) ⌝ }
+    ensures played { λ r. ⌜ Played (means (now (source .entry)) .plan) (now (table .entry) .slots) count budget (now (table .exit) .slots) r (λ _. readyOf (means (now (source .entry)) .plan) (now (table .exit) .slots) task ≡ None) ⌝ }
+    ensures others { λ _. ⌜ ((t : ℕ) → (t ≡ task → ⊥) → slotOf (now (table .exit) .slots) t ≡ slotOf (now (table .entry) .slots) t) ⌝ }
 {
     // The links into a task come from other tasks, so its own events leave its limits as they are.
-    let start = limit(source, table, task, Side::Start);
-    let finish = limit(source, table, task, Side::Finish);
-    while let Some(event) = next_below(source, table, task, start, finish) {
+    let limits = limits_of(source, table, routes, task);
+    let Some(mut place) = source.place_of(task, table.slots[task].word) else {
+        return Some(count);
+    };
+    while let Some(event) = next_below(table, task, place, limits) {
         if count == budget {
             return None;
         }
         enter(source, table, event);
+        place = of_side(event.side, place, place + 1);
         count += 1;
     }
     Some(count)
 }
 
+// The turn of a task, if it is to be looked at.
+fn turn<S: Source>(
+    source: &S,
+    table: &mut Table,
+    routes: &Routes,
+    due: &mut u64,
+    task: usize,
+    count: u32,
+    budget: u32,
+) -> Option<u32>
+    requires known { ⌜ task < taskCount (means (now source) .plan) ⌝ }
+    requires routed { ⌜ Routed (means (now source) .plan) (linkCount (means (now source) .plan)) (now routes .last) (now routes .before) (now routes .next) ⌝ }
+    requires rested { ⌜ Rested (means (now source) .plan) (now table .slots) (now due) ⌝ }
+    requires within { ⌜ count ≤ budget ⌝ }
+    ensures { λ r. ⌜ Played (means (now (source .entry)) .plan) (now (table .entry) .slots) count budget (now (table .exit) .slots) r (λ _. Rested (means (now (source .entry)) .plan) (now (table .exit) .slots) (now (due .exit)) × (readyOf (means (now (source .entry)) .plan) (now (table .exit) .slots) task ≡ None)) ⌝ }
+{
+    if (*due >> task) % 2 == 0 {
+        return Some(count);
+    }
+    let Some(more) = play_task(source, table, routes, task, count, budget) else {
+        return None;
+    };
+    *due ^= 1u64 << task;
+    if more == count {
+        return Some(more);
+    }
+    *due |= routes.next[task];
+    Some(more)
+}
+
 // One pass over the tasks.
-fn sweep<S: Source>(source: &S, table: &mut Table, mut count: u32, budget: u32) -> Option<u32>
-    requires { ⌜ count ≤ budget ⌝ }
-    ensures { λ r. ⌜ Played (means (now (source .entry)) .plan) (now (table .entry) .slots) count budget (now (table .exit) .slots) r (λ n. n ≡ count → Stuck (means (now (source .entry)) .plan) (now (table .exit) .slots)) ⌝ }
+fn sweep<S: Source>(
+    source: &S,
+    table: &mut Table,
+    routes: &Routes,
+    due: &mut u64,
+    mut count: u32,
+    budget: u32,
+) -> Option<u32>
+    requires routed { ⌜ Routed (means (now source) .plan) (linkCount (means (now source) .plan)) (now routes .last) (now routes .before) (now routes .next) ⌝ }
+    requires rested { ⌜ Rested (means (now source) .plan) (now table .slots) (now due) ⌝ }
+    requires within { ⌜ count ≤ budget ⌝ }
+    ensures { λ r. ⌜ Played (means (now (source .entry)) .plan) (now (table .entry) .slots) count budget (now (table .exit) .slots) r (λ n. Rested (means (now (source .entry)) .plan) (now (table .exit) .slots) (now (due .exit)) × (n ≡ count → Stuck (means (now (source .entry)) .plan) (now (table .exit) .slots))) ⌝ }
 {
     for task in 0..source.task_count() {
-        let Some(more) = play_task(source, table, task, count, budget) else {
+        let Some(more) = turn(source, table, routes, due, task, count, budget) else {
             return None;
         };
         count = more;
@@ -131,9 +169,11 @@ fn sweep<S: Source>(source: &S, table: &mut Table, mut count: u32, budget: u32) 
 pub(crate) fn play<S: Source>(source: &S, table: &mut Table, budget: u32) -> Option<u32>
     ensures { λ r. ⌜ Played (means (now (source .entry)) .plan) (now (table .entry) .slots) 0 budget (now (table .exit) .slots) r (λ _. Stuck (means (now (source .entry)) .plan) (now (table .exit) .slots)) ⌝ }
 {
+    let routes = routes_of(source);
+    let mut due = u64::MAX;
     let mut count = 0;
     loop {
-        let Some(more) = sweep(source, table, count, budget) else {
+        let Some(more) = sweep(source, table, &routes, &mut due, count, budget) else {
             return None;
         };
         if more == count {
