@@ -22,7 +22,7 @@ pub record Task : Type 0 where
   pub params : List Param
   pub name : List ℕ
 
--- a link: its ends, and a rule for each parameter of the to task
+-- a link: its ends, and as many rules as the to task has parameters
 pub record Link : Type 0 where
   pub ends : Ends
   pub rules : List Rule
@@ -64,7 +64,7 @@ abbrev pub frontBits : Description → List ℕ
 frontBits d =
     digits 4 1 ++ (digits 6 (length (d .tasks)) ++ (digits 7 (length (d .links)) ++ (joined taskBits (d .tasks) ++ joined linkBits (d .links))))
 
--- and, after zero bits up to a byte's end, the names
+-- then the byte is filled up with zeros, and the names follow
 unfoldable pub written : Description → List ℕ
 written d = frontBits d ++ (replicate (toByteEnd (length (frontBits d))) 0 ++ joined nameBits (d .tasks))
 

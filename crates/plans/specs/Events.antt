@@ -21,11 +21,11 @@ between d e = record { from = d .task; «from_side» = d .side; to = e .task; «
 
 -- `Rests p e d`: the event e rests on the event d.
 pub data Rests (p : Plan) (e d : Event) : Type 0 where
-  -- a finish on the start of its word
+  -- a word is finished only after it was started
   own-start : e .side ≡ Finish → d .side ≡ Start → e .task ≡ d .task → e .word ≡ d .word → Rests p e d
-  -- a start on the finish of the word one place earlier
+  -- and started only after the word before it was finished
   one-earlier : e .side ≡ Start → d .side ≡ Finish → e .task ≡ d .task → nextWord p (d .task) (d .word) ≡ Some (e .word) → Rests p e d
-  -- an event on each event from which some link gives it as target
+  -- what a link gives at a word waits for the event that the link comes from
   by-link : (l : ℕ) → linkEnds p l ≡ Some (between d e) → target p l (d .word) ≡ Some (e .word) → Rests p e d
 
 abbrev pub sameEvent : Event → Event → Bool

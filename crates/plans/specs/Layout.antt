@@ -86,7 +86,7 @@ taskOf tasks t = getD tasks t noTask
 abbrev pub join : ℕ → Ends → Bool
 join n e = ltb (e .from) n && ltb (e .to) n && not (eqb (e .from) (e .to))
 
--- a link: bad ends are a fault of the link, found when both are read; then a rule for each parameter of the to task
+-- a link: bad ends are a fault of the link, found when both are read; then come the rules, one a parameter of the to task
 abbrev pub link : List ℕ → List Params → Read Link
 link bs tasks at =
     next (ends bs) (λ e. next (unless (join (length tasks) e) kind.Ends at) (λ _.

@@ -17,8 +17,8 @@ use Rattle.plans.specs.Words.{words}
 use Rattle.plans.specs.Targets.{targetAt}
 use Rattle.plans.specs.Layout.{taskOf}
 
--- Of the places of a link's targets, word by word of the from task: targets on the first d words and on none after,
--- and later words never have an earlier target.
+-- Of the places of a link's targets, word by word of the from task: the first d words have targets and the others
+-- have none, and going on from word to word the targets never go back.
 pub record Ordered (places : List (Option ℕ)) : Type 0 where
   pub d : ℕ
   pub first : (i : ℕ) → i < d → (p : ℕ) × (nth places i ≡ Some (Some p))

@@ -15,8 +15,8 @@ use Rattle.std.specs.declared.option.Option.the-variants.{Some, None}
 use Rattle.plans.specs.declared.ends.Ends.{Ends}
 use Rattle.plans.specs.Lists.{andThen, placeIn, after}
 
--- A link goes from one event type, a task and a side, to another. `targets` has its reply at each word of the from task,
--- by place.
+-- A link joins two event types, each a task and a side. `targets` has its replies, word by word of the task that it
+-- comes from.
 pub record Link : Type 0 where
   pub ends : Ends
   pub targets : List (Option ℕ)
@@ -68,7 +68,7 @@ pub record KeepsLink (p : Plan) (k : Link) : Type 0 where
   pub lands : (i w : ℕ) → nth (k .targets) i ≡ Some (Some w) → isSome (placeOf p (k .ends .to) w) ≡ true
   -- where a word has no target, no later word has one
   pub first-ones : (i j w : ℕ) → i ≤ j → nth (k .targets) i ≡ Some None → nth (k .targets) j ≡ Some (Some w) → ⊥
-  -- later words never have an earlier target
+  -- from word to word the targets never go back
   pub in-order : (i j v w a b : ℕ) → i ≤ j → nth (k .targets) i ≡ Some (Some v) → nth (k .targets) j ≡ Some (Some w)
       → placeOf p (k .ends .to) v ≡ Some a → placeOf p (k .ends .to) w ≡ Some b → a ≤ b
 

@@ -1,4 +1,4 @@
--- The ready list, the state table and the opening, by the slots.
+-- What the slots tell of ready lists, state tables and a new run.
 use mathlib.Core.Path.{_≡_, refl, sym, ap, ap₂, subst, _∙_, fun-ext}
 use mathlib.Core.List.{List, [], _∷_, _++_, append-nil, append-assoc}
 use mathlib.Core.Bool.{Bool, true, false, cond}

@@ -52,7 +52,7 @@ conf-without p has e c n = (
   λ d. ap (λ (f : Event → Bool). without e f d) (by-list p has c) ∙ ap (λ (f : Event → Bool). f d) (without-is e (c .0)),
 )
 
--- What a post that meets none of its checks shows.
+-- What an accepted post shows.
 pub post-clear : (p : Plan) (has : Event → Bool) (e : Event) → postCheck p has e ≡ None → Ready p has e
 unfolding postCheck
 post-clear p has e h = go (ltb (e .task) (taskCount p)) (isSome (placeOf p (e .task) (e .word))) refl (has e) refl (all has (restsOn p e)) refl h
@@ -66,7 +66,7 @@ post-clear p has e h = go (ltb (e .task) (taskCount p)) (isSome (placeOf p (e .t
     go true true eb false ec true ed h =
         let o = is-there _ eb in record { of-plan = o; waits = ec; supported = supported p has e o ed }
 
--- The check of an event of the plan that does not stand.
+-- The check where the plan has the event and it is not standing.
 pub post-decides : (p : Plan) (has : Event → Bool) (e : Event) → Of-plan p e → has e ≡ false → postCheck p has e ≡ cond (not (all has (restsOn p e))) (Some Waits) None
 unfolding postCheck
 post-decides p has e o w =
@@ -76,7 +76,7 @@ post-decides p has e o w =
 pub post-ready : (p : Plan) (has : Event → Bool) (e : Event) → Ready p has e → postCheck p has e ≡ None
 post-ready p has e r = post-decides p has e (r .of-plan) (r .waits) ∙ rw (supports p has e (r .supported))
 
--- What a take-back that meets none of its checks shows.
+-- What an accepted take-back shows.
 pub take-back-clear : (p : Plan) (has : Event → Bool) → Configuration p has → (e : Event) → takeBackCheck p has e ≡ None → (d : Event) → has d ≡ true → Rests p d e → ⊥
 unfolding takeBackCheck
 take-back-clear p has conf e h d k r = go (ltb (e .task) (taskCount p)) (isSome (placeOf p (e .task) (e .word))) (has e) (any (λ d. has d && rests p d e) (events p)) refl h

@@ -1,4 +1,4 @@
--- Ways of posting ready events until none is ready: one exists, all end alike, and the verdict is theirs.
+-- Ways of playing a run to its end: one exists, all end alike, and the verdict is theirs.
 use mathlib.Core.Path.{_≡_, refl, sym, ap, subst, _∙_, fun-ext}
 use mathlib.Core.List.{List, [], _∷_, _++_}
 use mathlib.Core.Bool.{Bool, true, false, cond, not}

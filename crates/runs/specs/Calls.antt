@@ -79,7 +79,7 @@ standingFrom p has (c ∷ cs) = standingFrom p (after p has c) cs
 unfoldable pub standing : Plan → List Call → Event → Bool
 standing p cs = standingFrom p nothing cs
 
--- an event of the plan is ready: it does not stand, and all that it rests on does
+-- an event of the plan is ready: only itself is missing, and nothing that it rests on
 unfoldable pub isReady : Plan → (Event → Bool) → Event → Bool
 isReady p has e = not (has e) && all has (restsOn p e)
 

@@ -23,7 +23,7 @@ Same has held = (e : Event) → has e ≡ held e
 abbrev pub Supported : Plan → (Event → Bool) → Event → Type 0
 Supported p has e = (d : Event) → Rests p e d → has d ≡ true
 
--- an event of the plan that does not stand, while all that it rests on does
+-- an event that the plan has and that is missing, while nothing that it rests on is
 pub record Ready (p : Plan) (has : Event → Bool) (e : Event) : Type 0 where
   pub of-plan : Of-plan p e
   pub waits : has e ≡ false
@@ -51,13 +51,13 @@ pub record Way (p : Plan) (has : Event → Bool) (ds : List Event) : Type 0 wher
   pub steps : Steps p has ds
   pub ends : Nothing-ready p (posted has ds)
 
--- Posting an event of the plan that does not stand is accepted exactly when all that it rests on stands. Otherwise it waits.
+-- A missing event of the plan can be posted if, and only if, nothing that it rests on is missing; else the post has to wait.
 pub record Posted-by-the-order (p : Plan) (has : Event → Bool) (e : Event) : Type 0 where
   pub accepts : Supported p has e → reply p has (Post e) ≡ accepted
   pub only : reply p has (Post e) ≡ accepted → Supported p has e
   pub otherwise : (Supported p has e → ⊥) → reply p has (Post e) ≡ refused Waits
 
--- The verdict is that of a way of posting ready events until none is ready.
+-- The verdict tells how a way of playing to the end comes out.
 pub record Verdict-of (p : Plan) (has : Event → Bool) (ds : List Event) (budget : ℕ) : Type 0 where
   pub no-tasks : taskCount p ≡ 0 → reply p has (Verdict budget) ≡ refused NoTasks
   pub too-many : 1 ≤ taskCount p → budget < length ds → reply p has (Verdict budget) ≡ refused OverBudget
@@ -72,24 +72,24 @@ pub record Laws-of-runs (p : Plan) : Type 0 where
   pub take-backs-undo : (cs : List Call) (e : Event) → reply p (standing p cs) (TakeBack e) ≡ accepted → Step p (standing p (cs ++ (TakeBack e ∷ []))) e (standing p cs)
   -- any other call leaves the same events standing: only posts and take-backs are replied to with `accepted`
   pub unchanged : (cs : List Call) (c : Call) → (reply p (standing p cs) c ≡ accepted → ⊥) → Same (standing p (cs ++ (c ∷ []))) (standing p cs)
-  -- at every point of every list the standing events are a configuration
+  -- whatever was called, a configuration stands
   pub configurations : (cs : List Call) → Configuration p (standing p cs)
   -- posts go by the order
   pub posts : (cs : List Call) (e : Event) → Of-plan p e → standing p cs e ≡ false → Posted-by-the-order p (standing p cs) e
-  -- two lists end in equal state tables exactly when the same events stand
+  -- the state tables after two lists are equal if, and only if, the lists leave the same events standing
   pub tables : (cs ds : List Call)
       → (table p (standing p cs) ≡ table p (standing p ds) → Same (standing p cs) (standing p ds))
       × (Same (standing p cs) (standing p ds) → table p (standing p cs) ≡ table p (standing p ds))
-  -- every configuration of the plan stands after some list
+  -- there is a list of calls to each configuration
   pub reached : (has : Event → Bool) → Configuration p has → (cs : List Call) × Same (standing p cs) has
-  -- all lists after which nothing is ready leave the same events standing
+  -- where two lists have nothing left to post, they have come to the same events
   pub one-end : (cs ds : List Call) → Nothing-ready p (standing p cs) → Nothing-ready p (standing p ds) → Same (standing p cs) (standing p ds)
   -- the ready list holds the ready events
   pub lists-the-ready : (has : Event → Bool) (e : Event) → (among (ready p has) e ≡ true → Ready p has e) × (Ready p has e → among (ready p has) e ≡ true)
-  -- ready events can always be posted until none is ready, and the verdict is that of any way to do so
+  -- a run can always be played to its end, and the verdict is that of any way to do so
   pub ways-end : (cs : List Call) → (ds : List Event) × Way p (standing p cs) ds
   pub verdicts : (cs : List Call) (ds : List Event) → Way p (standing p cs) ds → (budget : ℕ) → Verdict-of p (standing p cs) ds budget
-  -- on a plan with tasks, and with enough budget, the verdict's word is the same at every point of every list
+  -- where there are tasks and the budget suffices, the verdict has one word, whenever it is asked
   pub one-word : 1 ≤ taskCount p → (done : Bool) × ((cs : List Call) (ds : List Event) → Way p (standing p cs) ds → (budget : ℕ) → length ds ≤ budget → reply p (standing p cs) (Verdict budget) ≡ wordFor done (length ds))
 
 -- the laws hold of every plan that keeps the rules

@@ -178,7 +178,7 @@ abbrev pub gathered : {A : Type 0} → (ℕ → List A) → ℕ → List A
 gathered f zero = []
 gathered f (suc n) = gathered f n ++ f n
 
--- A slot's five bytes in the state table: the word, highest byte first, then 0 waiting, 1 running or 2 done.
+-- A slot's five bytes in the state table: its word from the highest byte down, and a byte for its progress.
 abbrev pub row : Slot → List ℕ
 row s = (s .word / 16777216 % 256) ∷ (s .word / 65536 % 256) ∷ (s .word / 256 % 256) ∷ (s .word % 256) ∷ progress s ∷ []
 

@@ -13,7 +13,7 @@ pub enum Refusal {
     Stands = 22,
     // something that the event to post rests on does not stand
     Waits = 23,
-    // the event to take back does not stand
+    // the event to take back is not standing
     Absent = 24,
     // a standing event rests on the one to take back
     RestedOn = 25,

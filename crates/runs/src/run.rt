@@ -132,7 +132,7 @@ impl<S: Source> Run<S> {
         Ok(())
     }
 
-    // Plays the remaining events in the run's own table, which is put back on every way out.
+    // Plays on to the end, in the run's table, and puts the table back however that comes out.
     pub fn verdict(&mut self, budget: u32) -> Result<Outcome, Refusal>
         ensures answers { λ r. ⌜ Answers (means (now (self .entry) .source) .plan) (now (self .entry) .table .slots) (Verdict budget) (judged r) (now (self .entry) .table .slots) ⌝ }
         ensures same { λ _. ⌜ now (self .exit) ≡ now (self .entry) ⌝ }

@@ -14,7 +14,7 @@ use Rattle.plans.specs.declared.ends.Side.the-variants.{Start}
 use Rattle.plans.specs.Record.{checked}
 use Rattle.plans.specs.Meaning.{meaning}
 
--- tasks cc and ld run from 1 to 3; finish cc p goes to start ld p, and finish ld p to start cc p + 2
+-- tasks cc and ld run from 1 to 3; ld at p waits for cc at p, and cc at p + 2 for ld at p
 abbrev pub pipelined : List ℕ
 pipelined =
     0x10 ∷ 0x81 ∷ 0x10 ∷ 0x10 ∷ 0x31 ∷ 0x01 ∷ 0x03 ∷ 0x02 ∷ 0x10 ∷ 0x00 ∷ 0x08 ∷ 0x60 ∷ 0x00 ∷ 0x10 ∷ 0x80 ∷ 0x02 ∷ 0x63 ∷ 0x63 ∷ 0x02 ∷ 0x6C ∷ 0x64 ∷ []

@@ -4,7 +4,7 @@ ghost use Rattle.worked.specs.Orders.{circled};
 ghost use Rattle.worked.specs.Records.{pipelined};
 ghost use Rattle.worked.specs.Worked.{Worked-examples};
 
-// Tasks cc and ld run from 1 to 3; finish cc p goes to start ld p, and finish ld p to start cc p + 2.
+// Tasks cc and ld run from 1 to 3; ld at p waits for cc at p, and cc at p + 2 for ld at p.
 pub fn pipeline() -> [u8; 21]
     ensures value { λ r. ⌜ r ≡ pipelined ⌝ }
     ensures worked { λ _. ⌜ Worked-examples ⌝ }
