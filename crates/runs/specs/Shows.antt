@@ -3,7 +3,9 @@ use mathlib.Core.Path.{_≡_}
 use mathlib.Core.List.{List, [], _∷_, _++_}
 use lib.ListN.{take, drop}
 use Prim.Native.Nat.{ℕ}
-use mathlib.Core.Bool.{Bool}
+use mathlib.Core.Bool.{Bool, cond}
+use lib.Dec.{ltb}
+use Rattle.runs.specs.declared.refusal.Refusal.the-variants.{NoRoom}
 use Rattle.std.specs.declared.result.Result.{Result}
 use Rattle.std.specs.declared.result.Result.the-variants.{Ok, Err}
 use Rattle.plans.specs.declared.event.Event.{Event}
@@ -61,3 +63,7 @@ added from end room = drop from (take end room)
 pub record Answers-all (p : Plan) (slots : List Slot) (calls : List Call) (rs : List Reply) (left : List Slot) : Type 0 where
   pub replied : (cs : List Call) → Shows p slots (standing p cs) → rs ≡ repliesFrom p (standing p cs) calls
   pub stands : (cs : List Call) → Shows p slots (standing p cs) → Shows p left (standing p (cs ++ calls))
+
+-- what a call that wants so many entries of a list is answered with, where there are so many
+abbrev pub roomFor : ℕ → ℕ → Result (Unit {0}) Refusal
+roomFor wanted room = cond (ltb room wanted) (Err NoRoom) (Ok tt)

@@ -4,7 +4,6 @@ ghost use mathlib.Core.Bool.{true, false};
 ghost use mathlib.Core.List.{[], map};
 ghost use Prim.Native.Nat.{ℕ, _+_, _-_, _*_, _≤_};
 ghost use denote.Ref.{name};
-ghost use lib.Dec.{leb};
 ghost use lib.ListN.{length, take, drop};
 ghost use Rattle.std.specs.Results.{isOk};
 ghost use Rattle.plans.specs.Plan.{taskCount};
@@ -13,7 +12,7 @@ ghost use Rattle.runs.specs.declared.calls.Answer.the-variants.{Refused};
 ghost use Rattle.runs.specs.declared.refusal.Refusal.{Refusal as Reason};
 ghost use Rattle.runs.specs.Calls.{lists, fills, standing, replies};
 ghost use Rattle.runs.specs.Laws.{Laws-of-runs};
-ghost use Rattle.runs.specs.Shows.{Shows, Answers, Answers-all, told, judged, written, said, added};
+ghost use Rattle.runs.specs.Shows.{Shows, Answers, Answers-all, told, judged, written, said, added, roomFor};
 ghost use Rattle.runs.specs.Slots.{slotOf, readyTo};
 use crate::calls::Answer;
 use crate::calls::Call;
@@ -199,7 +198,7 @@ impl<S: Source> Run<S> {
     // Performs calls one after another and adds their answers to a list; nothing is done where the list has too few free entries.
     fn perform_all(&mut self, calls: &[Call], out: &mut List<'_, Answer>) -> Result<(), Refusal>
         ensures answers { λ r. ⌜ (isOk r ≡ true → Answers-all (means (now (self .entry) .source) .plan) (now (self .entry) .table .slots) (now (calls .entry)) (map said (added (now (out .entry) .len) (now (out .exit) .len) (now (now (out .exit) .room)))) (now (self .exit) .table .slots)) ⌝ }
-        ensures enough { λ r. ⌜ isOk r ≡ leb (now (out .entry) .len + length (now (calls .entry))) (length (now (now (out .entry) .room))) ⌝ }
+        ensures enough { λ r. ⌜ r ≡ roomFor (now (out .entry) .len + length (now (calls .entry))) (length (now (now (out .entry) .room))) ⌝ }
         ensures refused { λ r. ⌜ (isOk r ≡ false → (now (self .exit) ≡ now (self .entry)) × (now (out .exit) .len ≡ now (out .entry) .len) × (now (now (out .exit) .room) ≡ now (now (out .entry) .room))) ⌝ }
         ensures source { λ r. ⌜ now (self .exit) .source ≡ now (self .entry) .source ⌝ }
         ensures front { λ r. ⌜ take (now (out .entry) .len) (now (now (out .exit) .room)) ≡ take (now (out .entry) .len) (now (now (out .entry) .room)) ⌝ }
@@ -226,7 +225,7 @@ pub fn replay<S: Source + Drop>(
 ) -> Result<(), Refusal>
     ensures replied { λ r. ⌜ (isOk r ≡ true → map said (added (now (out .entry) .len) (now (out .exit) .len) (now (now (out .exit) .room))) ≡ replies (S·Source .means source .plan) (now (calls .entry))) ⌝ }
     ensures laws { λ r. ⌜ Laws-of-runs (S·Source .means source .plan) ⌝ }
-    ensures enough { λ r. ⌜ isOk r ≡ leb (now (out .entry) .len + length (now (calls .entry))) (length (now (now (out .entry) .room))) ⌝ }
+    ensures enough { λ r. ⌜ r ≡ roomFor (now (out .entry) .len + length (now (calls .entry))) (length (now (now (out .entry) .room))) ⌝ }
     ensures refused { λ r. ⌜ (isOk r ≡ false → (now (out .exit) .len ≡ now (out .entry) .len) × (now (now (out .exit) .room) ≡ now (now (out .entry) .room))) ⌝ }
     ensures front { λ r. ⌜ take (now (out .entry) .len) (now (now (out .exit) .room)) ≡ take (now (out .entry) .len) (now (now (out .entry) .room)) ⌝ }
     ensures beyond { λ r. ⌜ drop (now (out .exit) .len) (now (now (out .exit) .room)) ≡ drop (now (out .exit) .len) (now (now (out .entry) .room)) ⌝ }

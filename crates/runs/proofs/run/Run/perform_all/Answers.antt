@@ -1,13 +1,22 @@
 use mathlib.Core.Path.{_≡_, refl, sym, ap, _∙_}
-use mathlib.Core.Bool.{true}
-use Prim.Native.Nat.{_<_}
+use mathlib.Core.Bool.{true, cond}
+use Prim.Native.Nat.{ℕ, _<_, _≤_}
 use native.Mathlib.Omega.{arith}
 use denote.Ref.{now}
 use lib.ListN.{length, take}
 use Rattle.std.proofs.shelf.Lists.{take-all}
-use Rattle.std.proofs.shelf.Tests.{both-ways, le-leb}
+use Rattle.std.proofs.shelf.Tests.{both-ways, le-ltb}
+use Rattle.std.specs.declared.result.Result.{Result}
+use Rattle.std.specs.declared.result.Result.the-variants.{Ok, Err}
+use Rattle.runs.specs.declared.refusal.Refusal.{Refusal}
+use Rattle.runs.specs.declared.refusal.Refusal.the-variants.{NoRoom}
+use Rattle.runs.specs.Shows.{roomFor}
 use Rattle.runs.proofs.Journals.{on-plan, of-calls, no-answers, nothing-new, told-more}
 use Rattle.runs.proofs.run.Run.perform_all.Needs as need
+
+-- there is room
+room-enough : (wanted room : ℕ) → wanted ≤ room → Ok tt ≡ roomFor wanted room
+room-enough wanted room h = sym (ap (λ b. cond {A = Result (Unit {0}) Refusal} b (Err NoRoom) (Ok tt)) (le-ltb room wanted h))
 
 pub loop-call-holds : need.loop-call-holds
 loop-call-holds g c =
@@ -43,7 +52,7 @@ returns g c =
     let all : take (c .loop-call .call-index) (c .args .calls .now) ≡ c .args .calls .now = take-all (c .loop-call .call-index) (c .args .calls .now) (c .loop-call-test .left) in
     record {
       answers = λ _. of-calls (take (c .loop-call .call-index) (c .args .calls .now)) (c .args .calls .now) all (t .answers);
-      enough = sym (le-leb _ _ (c .loop-call .inv .2));
+      enough = room-enough _ _ (c .loop-call .inv .2);
       refused = λ e. absurd (both-ways true e refl);
       source = c .loop-call .inv .0;
       front = t .front;
