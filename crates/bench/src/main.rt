@@ -1,5 +1,7 @@
 // Times the questions about the plan in plan.bin, `bench questions`, the verdict of a new run on it, `bench verdict`, and that of
 // one on a pipeline, which needs no file, `bench pipeline`.
+#![tactic(auto)]
+
 use pipeline::Pipeline;
 use plans::{Packed, Source};
 use runs::{Outcome, Run};

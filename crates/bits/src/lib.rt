@@ -1,5 +1,7 @@
 // Reads fields of bits from bytes, the most significant bit first.
 // A bit's number has 128 bits, since eight times a slice's length can pass 64.
+#![tactic(auto)]
+
 ghost use Rattle.std.specs.Prelude.{◌≡◌, ◌+◌, ◌*◌, ◌^◌, ◌<◌, ◌≤◌, min, length, is_ok, IfOk, if◌then◌else◌, slice_index};
 ghost use Rattle.bits.specs.Bits.{bits, field, spelled};
 ghost use Rattle.bits.specs.Fields.{field_at};

@@ -1,4 +1,6 @@
 // Tells what is in plan.bin: the row of its fault, or its tasks and links.
+#![tactic(auto)]
+
 mod text;
 
 use plans::{Packed, Source, check};

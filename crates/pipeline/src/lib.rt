@@ -1,4 +1,6 @@
 // Pipelines: a plan source that stores nothing. It serves as the example of how to write one.
+#![tactic(auto)]
+
 ghost use Rattle.std.specs.Prelude.{◌≡◌, ◌≤◌, min, max};
 ghost use Rattle.plans.specs.Plan.{Keeps, lawful};
 ghost use Rattle.pipeline.specs.Pipeline.{goes_on, pipeline_plan};

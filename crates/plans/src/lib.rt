@@ -1,4 +1,6 @@
 // Plans of tasks that are repeated over parameters.
+#![tactic(auto)]
+
 mod checks;
 mod decode;
 mod ends;

@@ -1,4 +1,6 @@
 // Checks each record of a table: a line of the input is a name, a space and the record's bytes in hexadecimal.
+#![tactic(auto)]
+
 ghost use Rattle.std.specs.Prelude.{◌<◌};
 
 use plans::{Packed, Source, check};

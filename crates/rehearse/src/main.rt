@@ -1,4 +1,6 @@
 // Rehearses the plan in plan.bin: performs a short list of calls on a run, and tells each call with its answer.
+#![tactic(auto)]
+
 use plans::{Event, Packed, Side, Source};
 use runs::{Answer, Call, List, replay};
 use std::io::ErrorKind;

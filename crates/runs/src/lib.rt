@@ -1,4 +1,6 @@
 // Runs over any plan source.
+#![tactic(auto)]
+
 mod calls;
 mod checks;
 mod guard;

@@ -1,4 +1,6 @@
 // Worked records and plans, and what is proved of them from the definitions alone.
+#![tactic(auto)]
+
 ghost use Rattle.std.specs.Prelude.{◌≡◌};
 ghost use Rattle.worked.specs.Orders.{circled};
 ghost use Rattle.worked.specs.Records.{pipelined};
