@@ -3,8 +3,8 @@ use Rattle.std.proofs.lemmas.Bool.Decides.{nat_tests}
 use Rattle.pipeline.proofs.Replies.{link_count_is, target_is}
 use Rattle.pipeline.proofs.PipelineSource.target.Goals as goal
 
-pub returns-then-link-link-count : goal.returns-then-link-link-count
-returns-then-link-link-count c =
+pub returns-then-link-link_count : goal.returns-then-link-link_count
+returns-then-link-link_count c =
     let p = c.args.self.now in
     let count = link_count_is p.tasks p.words p.ahead in
     let is = target_is p.tasks p.words p.ahead c.args.link c.args.word in

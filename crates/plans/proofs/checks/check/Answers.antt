@@ -13,13 +13,13 @@ use Rattle.plans.proofs.checks.check.Goals as goal
 decides : (bs : List ℕ) (m : Result Parts Fault) → checked bs ≡ m → Decides (is_ok m) (RecordOf bs)
 decides bs m is = subst (λ x. Decides (is_ok x) (RecordOf bs)) is (terms bs).accepted
 
-pub returns-in-err-decode : goal.returns-in-err-decode
-returns-in-err-decode c =
-    let p = err_from_is_err_and c.from-residual.result c.from-residual.ensures.1 in
-    let is = c.in-err-decode.ensures in
+pub returns-in_err-decode : goal.returns-in_err-decode
+returns-in_err-decode c =
+    let p = err_from_is_err_and c.from_residual.result c.from_residual.ensures.1 in
+    let is = c.in_err-decode.ensures in
     rw (p.1, p.2) (record { accepted = decides c.args.bytes.now _ is; value = sym (ap (λ m. on_ok m (λ _. Ok tt)) is); records = laws_of_records; plans = laws_of_plans })
 
 pub returns : goal.returns
 returns c =
-    let is = c.in-ok-decode.ensures in
+    let is = c.in_ok-decode.ensures in
     record { accepted = decides c.args.bytes.now _ is; value = sym (ap (λ m. on_ok m (λ _. Ok tt)) is); records = laws_of_records; plans = laws_of_plans }

@@ -5,4 +5,4 @@ use Rattle.plans.proofs.word.word_of.Goals as goal
 pub returns : goal.returns
 returns c =
     let four : length c.args.values ≡ 4 = omega arith in
-    c.from-be-bytes.ensures ∙ word_of_four c.args.values four
+    c.from_be_bytes.ensures ∙ word_of_four c.args.values four

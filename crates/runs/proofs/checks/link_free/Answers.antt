@@ -6,10 +6,10 @@ pub bounds-table-ends : goal.bounds-table-ends
 bounds-table-ends g c =
     omega (arith, to_small _ (g.S.Source.means c.args.source.now).keeps c.args.link c.in-Some.ends c.in-Some.ensures)
 
-pub offset-bounds-table-ends : goal.offset-bounds-table-ends
-offset-bounds-table-ends g c =
+pub offset_bounds-table-ends : goal.offset_bounds-table-ends
+offset_bounds-table-ends g c =
     omega (arith, to_small _ (g.S.Source.means c.args.source.now).keeps c.args.link c.in-Some.ends c.in-Some.ensures)
 
 pub rank-requires : goal.rank-requires
 rank-requires g c =
-    place_known _ (g.S.Source.means c.args.source.now).keeps _ _ c.in-Some-place-of.place c.in-Some-place-of.ensures
+    place_known _ (g.S.Source.means c.args.source.now).keeps _ _ c.in-Some-place_of.place c.in-Some-place_of.ensures

@@ -9,7 +9,7 @@ pub returns-then-not-table-task : goal.returns-then-not-table-task
 returns-then-not-table-task g c =
     let p = (g.S.Source.means c.args.source.now).plan in
     let ss = c.args.table.now.slots in
-    let h : c.loop-task.task < task_count p = omega (arith, c.task-count-task-end.ensures) in
+    let h : c.loop-task.task < task_count p = omega (arith, c.task_count-task-end.ensures) in
     let is = none_below (λ t. (slot_of ss t).done) (all_done ss) (λ t. refl) c.loop-task.task (task_count p) h (sym c.if-not-table-task.true) in
     search rules
 

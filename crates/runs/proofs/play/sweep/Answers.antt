@@ -6,9 +6,9 @@ use Rattle.runs.proofs.play.sweep.Goals as goal
 pub loop-task-init : goal.loop-task-init
 loop-task-init g c = (stay, omega arith, λ q t h. absurd (omega arith), c.requires.rested)
 
-pub returns-in-default : goal.returns-in-default
-returns-in-default g c =
-    let r = c.in-default.ensures in
+pub returns-in_default : goal.returns-in_default
+returns-in_default g c =
+    let r = c.in_default.ensures in
     (r.0, plays_then c.loop-task.invariant.0 r.1)
 
 pub loop-task-preserved : goal.loop-task-preserved

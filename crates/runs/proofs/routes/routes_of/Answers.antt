@@ -10,23 +10,23 @@ pub loop-link-init : goal.loop-link-init
 loop-link-init g c =
     (routed_start _ (g.S.Source.means c.args.source.now).keeps, length-replicate {A = ℕ} 64 0, length-replicate {A = ℕ} 4096 0, length-replicate {A = ℕ} 64 0)
 
-pub offset-bounds-last-ends : goal.offset-bounds-last-ends
-offset-bounds-last-ends g c = omega (arith, to_small _ (g.S.Source.means c.args.source.now).keeps c.loop-link.link c.in-Some.ends c.in-Some.ensures)
+pub offset_bounds-last-ends : goal.offset_bounds-last-ends
+offset_bounds-last-ends g c = omega (arith, to_small _ (g.S.Source.means c.args.source.now).keeps c.loop-link.link c.in-Some.ends c.in-Some.ensures)
 
 pub bounds-last-ends : goal.bounds-last-ends
 bounds-last-ends g c = omega (arith, to_small _ (g.S.Source.means c.args.source.now).keeps c.loop-link.link c.in-Some.ends c.in-Some.ensures)
 
-pub offset-bounds-last-ends-in-loop-link : goal.offset-bounds-last-ends-in-loop-link
-offset-bounds-last-ends-in-loop-link g c = omega (arith, to_small _ (g.S.Source.means c.args.source.now).keeps c.loop-link.link c.in-Some.ends c.in-Some.ensures)
+pub offset_bounds-last-ends-in-loop-link : goal.offset_bounds-last-ends-in-loop-link
+offset_bounds-last-ends-in-loop-link g c = omega (arith, to_small _ (g.S.Source.means c.args.source.now).keeps c.loop-link.link c.in-Some.ends c.in-Some.ensures)
 
 pub bounds-last-ends-in-loop-link : goal.bounds-last-ends-in-loop-link
 bounds-last-ends-in-loop-link g c = omega (arith, to_small _ (g.S.Source.means c.args.source.now).keeps c.loop-link.link c.in-Some.ends c.in-Some.ensures)
 
-pub overflow-shl-next : goal.overflow-shl-next
-overflow-shl-next g c = omega (arith, to_small _ (g.S.Source.means c.args.source.now).keeps c.loop-link.link c.in-Some.ends c.in-Some.ensures)
+pub overflow_shl-next : goal.overflow_shl-next
+overflow_shl-next g c = omega (arith, to_small _ (g.S.Source.means c.args.source.now).keeps c.loop-link.link c.in-Some.ends c.in-Some.ensures)
 
-pub offset-bounds-next-ends : goal.offset-bounds-next-ends
-offset-bounds-next-ends g c = omega (arith, from_small _ (g.S.Source.means c.args.source.now).keeps c.loop-link.link c.in-Some.ends c.in-Some.ensures)
+pub offset_bounds-next-ends : goal.offset_bounds-next-ends
+offset_bounds-next-ends g c = omega (arith, from_small _ (g.S.Source.means c.args.source.now).keeps c.loop-link.link c.in-Some.ends c.in-Some.ensures)
 
 pub bounds-next-ends : goal.bounds-next-ends
 bounds-next-ends g c = omega (arith, from_small _ (g.S.Source.means c.args.source.now).keeps c.loop-link.link c.in-Some.ends c.in-Some.ensures)
@@ -34,14 +34,14 @@ bounds-next-ends g c = omega (arith, from_small _ (g.S.Source.means c.args.sourc
 pub bounds-next-ends-in-loop-link : goal.bounds-next-ends-in-loop-link
 bounds-next-ends-in-loop-link g c = omega (arith, from_small _ (g.S.Source.means c.args.source.now).keeps c.loop-link.link c.in-Some.ends c.in-Some.ensures)
 
-pub loop-link-preserved-in-default : goal.loop-link-preserved-in-default
-loop-link-preserved-in-default g c = (routed_none _ (g.S.Source.means c.args.source.now).keeps c.loop-link.link _ _ _ c.loop-link.invariant.0 c.in-default.ensures, c.loop-link.invariant.1, c.loop-link.invariant.2, c.loop-link.invariant.3)
+pub loop-link-preserved-in_default : goal.loop-link-preserved-in_default
+loop-link-preserved-in_default g c = (routed_none _ (g.S.Source.means c.args.source.now).keeps c.loop-link.link _ _ _ c.loop-link.invariant.0 c.in_default.ensures, c.loop-link.invariant.1, c.loop-link.invariant.2, c.loop-link.invariant.3)
 
 pub loop-link-preserved : goal.loop-link-preserved
 loop-link-preserved g c =
     let p = (g.S.Source.means c.args.source.now).plan in
     let keeps = (g.S.Source.means c.args.source.now).keeps in
-    let few : c.loop-link.link < 4096 = omega (arith, c.link-count-link-end.ensures, keeps.few_links) in (
+    let few : c.loop-link.link < 4096 = omega (arith, c.link_count-link-end.ensures, keeps.few_links) in (
       routed_more p keeps c.loop-link.link c.loop-link.last c.loop-link.before c.loop-link.next c.loop-link.invariant.0 c.in-Some.ends _ _ _ c.in-Some.ensures
           c.loop-link.invariant.1 c.loop-link.invariant.2 c.loop-link.invariant.3 few refl refl
           (ap (bit_or (get_or c.loop-link.next c.in-Some.ends.from 0)) (one_shl c.in-Some.ends.to 64 (to_small p keeps c.loop-link.link c.in-Some.ends c.in-Some.ensures))),

@@ -6,7 +6,7 @@ pub returns : goal.returns
 returns g c =
     let p = (g.S.Source.means c.args.source).plan in
     let s = c.open-run.ensures.source in
-    let all = c.perform-all.ensures in
+    let all = c.perform_all.ensures in
     record {
       replied = λ ok. from_opening p c.open-run.result.table.slots c.args.calls.now _ _ c.open-run.ensures.empty
           (all_on_plan (g.S.Source.means c.open-run.result.source).plan p (ap (λ x. (g.S.Source.means x).plan) s) (all.answers ok));

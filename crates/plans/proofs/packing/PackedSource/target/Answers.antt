@@ -7,6 +7,6 @@ returns-then-link-self c = let is = no_target c.args.self.now.parts c.args.link 
 
 pub returns : goal.returns
 returns c =
-    let found = c.target-at.ensures in
+    let found = c.target_at.ensures in
     let is = the_target c.args.self.now.parts c.args.link c.args.word c.joined.result (omega arith) c.joined.ensures in
     search rules

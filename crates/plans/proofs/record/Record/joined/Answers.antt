@@ -11,8 +11,8 @@ get-from-requires c = let r = c.args.self.now in (join_parts r.tasks.count (get_
 pub get-to-requires : goal.get-to-requires
 get-to-requires c = let r = c.args.self.now in (join_parts r.tasks.count (get_or r.links c.args.link no_link).ends (link_sound r c.args.link (omega arith)).joins).1
 
-pub invariant-of-rules : goal.invariant-of-rules
-invariant-of-rules c = let s = link_sound c.args.self.now c.args.link (omega arith) in (s.four, (s.divide, tt))
+pub invariant_of-rules : goal.invariant_of-rules
+invariant_of-rules c = let s = link_sound c.args.self.now c.args.link (omega arith) in record { four = s.four; divide = s.divide }
 
 pub returns : goal.returns
 returns c =

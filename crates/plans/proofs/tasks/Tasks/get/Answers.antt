@@ -5,15 +5,15 @@ use Rattle.plans.specs.Decoded.{tasks_of}
 use Rattle.plans.proofs.Accepted.{Sound, good_at}
 use Rattle.plans.proofs.tasks.Tasks.get.Goals as goal
 
-pub invariant-of-result : goal.invariant-of-result
-invariant-of-result c =
+pub invariant_of-result : goal.invariant_of-result
+invariant_of-result c =
     let t = c.args.self.now in
     let full = t.full in
     let few = t.few in
     let long = length-take-le t.count t.each (omega arith) in
     let is = get_or-take t.count t.each c.args.task no_task (omega arith) in
     let s = subst Sound is (good_at (tasks_of t) c.args.task no_task t.good (omega arith)) in
-    (s.four, (s.few, (s.some, (s.limit, (s.bytes, tt)))))
+    record { four = s.four; few = s.few; some = s.some; limit = s.limit; bytes = s.bytes }
 
 pub returns : goal.returns
 returns c =

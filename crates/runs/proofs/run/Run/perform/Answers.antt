@@ -37,34 +37,34 @@ returns-then-room-count g c =
     let ss = c.args.self.now.table.slots in
     record {
       answers = as_call (StateTable c.in-StateTable.room) c.args.call c.in-StateTable.is
-          (table_refused m.plan m.keeps ss c.in-StateTable.room (omega (arith, c.task-count-count.ensures, c.if-room-count.true)));
+          (table_refused m.plan m.keeps ss c.in-StateTable.room (omega (arith, c.task_count-count.ensures, c.if-room-count.true)));
       source = refl;
       refused = λ x e. refl;
     }
 
-pub returns-in-Ok-state-table : goal.returns-in-Ok-state-table
-returns-in-Ok-state-table g c =
+pub returns-in-Ok-state_table : goal.returns-in-Ok-state_table
+returns-in-Ok-state_table g c =
     let m = g.S.Source.means c.args.self.now.source in
     let ss = c.args.self.now.table.slots in
     let n = task_count m.plan in
     let few = m.keeps.few_tasks in
-    let count : 5 * c.task-count-count.result ≡ 5 * n = omega (arith, c.task-count-count.ensures) in
+    let count : 5 * c.task_count-count.result ≡ 5 * n = omega (arith, c.task_count-count.ensures) in
     record {
       answers = as_call (StateTable c.in-StateTable.room) c.args.call c.in-StateTable.is
-          (subst (λ (k : ℕ). Answers m.plan ss (StateTable c.in-StateTable.room) (fills (take k c.state-table.new.out)) ss) (sym count)
-          (other_room m.plan ss _ c.in-StateTable.room _ (omega arith) (omega (arith, c.task-count-count.ensures, c.if-room-count.false)) c.in-Ok-state-table.ensures.answers));
+          (subst (λ (k : ℕ). Answers m.plan ss (StateTable c.in-StateTable.room) (fills (take k c.state_table.new.out)) ss) (sym count)
+          (other_room m.plan ss _ c.in-StateTable.room _ (omega arith) (omega (arith, c.task_count-count.ensures, c.if-room-count.false)) c.in-Ok-state_table.ensures.answers));
       source = refl;
       refused = λ x e. refl;
     }
 
-pub returns-in-Err-state-table : goal.returns-in-Err-state-table
-returns-in-Err-state-table g c =
+pub returns-in-Err-state_table : goal.returns-in-Err-state_table
+returns-in-Err-state_table g c =
     let m = g.S.Source.means c.args.self.now.source in
     let ss = c.args.self.now.table.slots in
     let few = m.keeps.few_tasks in
     record {
       answers = as_call (StateTable c.in-StateTable.room) c.args.call c.in-StateTable.is
-          (other_room m.plan ss _ c.in-StateTable.room _ (omega arith) (omega (arith, c.task-count-count.ensures, c.if-room-count.false)) c.in-Err-state-table.ensures.answers);
+          (other_room m.plan ss _ c.in-StateTable.room _ (omega arith) (omega (arith, c.task_count-count.ensures, c.if-room-count.false)) c.in-Err-state_table.ensures.answers);
       source = refl;
       refused = λ x e. refl;
     }

@@ -9,22 +9,22 @@ use Rattle.runs.proofs.run.Run.state_table.Goals as goal
 pub returns-then-out-tasks : goal.returns-then-out-tasks
 returns-then-out-tasks g c =
     let m = g.S.Source.means c.args.self.now.source in
-    record { answers = table_refused m.plan m.keeps c.args.self.now.table.slots (length c.args.out.now) (omega (arith, c.task-count-tasks.ensures)); beyond = refl; refused = λ _. refl }
+    record { answers = table_refused m.plan m.keeps c.args.self.now.table.slots (length c.args.out.now) (omega (arith, c.task_count-tasks.ensures)); beyond = refl; refused = λ _. refl }
 
 pub loop-task-preserved : goal.loop-task-preserved
 loop-task-preserved g c =
     let ss = c.args.self.now.table.slots in
     let room : 5 * c.loop-task.task + 5 ≤ length c.loop-task.out = omega arith in
-    let same : c.copy-from-slice.new.self ≡ row (slot_of ss c.loop-task.task) = c.copy-from-slice.ensures.after ∙ c.row-row.ensures in
-    rows_more ss c.loop-task.out c.args.out.now c.copy-from-slice.new.self c.loop-task.task _ (omega arith) room same c.loop-task.invariant.0 c.loop-task.invariant.1
+    let same : c.copy_from_slice.new.self ≡ row (slot_of ss c.loop-task.task) = c.copy_from_slice.ensures.after ∙ c.row-row.ensures in
+    rows_more ss c.loop-task.out c.args.out.now c.copy_from_slice.new.self c.loop-task.task _ (omega arith) room same c.loop-task.invariant.0 c.loop-task.invariant.1
 
 pub returns : goal.returns
 returns g c =
     let m = g.S.Source.means c.args.self.now.source in
     let ss = c.args.self.now.table.slots in
     let n = task_count m.plan in
-    let last : c.loop-task.task ≡ n = omega (arith, c.task-count-tasks.ensures) in
-    let room : 5 * n ≤ length c.args.out.now = omega (arith, c.task-count-tasks.ensures) in
+    let last : c.loop-task.task ≡ n = omega (arith, c.task_count-tasks.ensures) in
+    let room : 5 * n ≤ length c.args.out.now = omega (arith, c.task_count-tasks.ensures) in
     record {
       answers = table_answers m.plan m.keeps ss (length c.args.out.now) (take (5 * n) c.loop-task.out) room (rw last at c.loop-task.invariant.0);
       beyond = rw last at c.loop-task.invariant.1;
