@@ -27,7 +27,7 @@ fn goes_to(ends: Ends, task: usize, side: Side) -> bool
 // The word of the next event of a task and a side; nothing where all of them stand.
 fn next_word_of<S: Source>(source: &S, table: &Table, task: usize, side: Side) -> Option<Word>
     requires { task < 64 }
-    ensures { result ≡ next_of (means source.now).plan task side (slot_of table.now.slots task) }
+    ensures { result ≡ next_of (S.Source.means source.now).plan task side (slot_of table.now.slots task) }
 {
     let slot = table.slots[task];
     if slot.done {
@@ -47,7 +47,7 @@ fn next_word_of<S: Source>(source: &S, table: &Table, task: usize, side: Side) -
 
 // How many events of a task stand, by its slot.
 fn count_of<S: Source>(source: &S, task: usize, slot: Slot) -> u32
-    ensures { result ≡ slot_count (means source.now).plan task slot }
+    ensures { result ≡ slot_count (S.Source.means source.now).plan task slot }
 {
     match source.place_of(task, slot.word) {
         Some(place) => 2 * place + slot.progress() as u32,
@@ -57,7 +57,7 @@ fn count_of<S: Source>(source: &S, task: usize, slot: Slot) -> u32
 
 // Whether a link lets the event, whose word has the place, be posted.
 fn link_met<S: Source>(source: &S, table: &Table, event: Event, place: u32, link: usize) -> bool
-    ensures { result ≡ link_met_by (means source.now).plan table.now.slots (type_of event) place link }
+    ensures { result ≡ link_met_by (S.Source.means source.now).plan table.now.slots (type_of event) place link }
 {
     let Some(ends) = source.ends(link) else {
         return true;
@@ -79,7 +79,7 @@ fn link_met<S: Source>(source: &S, table: &Table, event: Event, place: u32, link
 
 // Whether every link does.
 fn links_met<S: Source>(source: &S, table: &Table, event: Event, place: u32) -> bool
-    ensures { result ≡ links_met_by (means source.now).plan table.now.slots (type_of event) place (link_count (means source.now).plan) }
+    ensures { result ≡ links_met_by (S.Source.means source.now).plan table.now.slots (type_of event) place (link_count (S.Source.means source.now).plan) }
 {
     for link in 0..source.link_count() {
         if !link_met(source, table, event, place, link) {
@@ -102,7 +102,7 @@ fn rank(place: u32, side: Side) -> u32
 
 // The answer to a post.
 pub(crate) fn check_post<S: Source>(source: &S, table: &Table, event: Event) -> Result<(), Refusal>
-    ensures reply { result ≡ post_by (means source.now).plan table.now.slots event }
+    ensures reply { result ≡ post_by (S.Source.means source.now).plan table.now.slots event }
     ensures known { is_ok result ≡ true → event.task < 64 }
 {
     let Event { task, side, word } = event;
@@ -126,7 +126,7 @@ pub(crate) fn check_post<S: Source>(source: &S, table: &Table, event: Event) -> 
 
 // Whether a link gives, from the event, no event that stands.
 fn link_free<S: Source>(source: &S, table: &Table, event: Event, link: usize) -> bool
-    ensures { result ≡ link_free_by (means source.now).plan table.now.slots (type_of event) event.word link }
+    ensures { result ≡ link_free_by (S.Source.means source.now).plan table.now.slots (type_of event) event.word link }
 {
     let Some(ends) = source.ends(link) else {
         return true;
@@ -145,7 +145,7 @@ fn link_free<S: Source>(source: &S, table: &Table, event: Event, link: usize) ->
 
 // Whether no link gives one that stands.
 fn links_free<S: Source>(source: &S, table: &Table, event: Event) -> bool
-    ensures { result ≡ links_free_by (means source.now).plan table.now.slots (type_of event) event.word (link_count (means source.now).plan) }
+    ensures { result ≡ links_free_by (S.Source.means source.now).plan table.now.slots (type_of event) event.word (link_count (S.Source.means source.now).plan) }
 {
     for link in 0..source.link_count() {
         if !link_free(source, table, event, link) {
@@ -161,7 +161,7 @@ pub(crate) fn check_take_back<S: Source>(
     table: &Table,
     event: Event,
 ) -> Result<(), Refusal>
-    ensures reply { result ≡ take_back_by (means source.now).plan table.now.slots event }
+    ensures reply { result ≡ take_back_by (S.Source.means source.now).plan table.now.slots event }
     ensures known { is_ok result ≡ true → event.task < 64 }
 {
     let Event { task, side, word } = event;
@@ -186,7 +186,7 @@ pub(crate) fn check_take_back<S: Source>(
 // The ready event of a task, or nothing.
 pub(crate) fn ready_event<S: Source>(source: &S, table: &Table, task: usize) -> Option<Event>
     requires { task < 64 }
-    ensures { result ≡ ready_of (means source.now).plan table.now.slots task }
+    ensures { result ≡ ready_of (S.Source.means source.now).plan table.now.slots task }
 {
     let event = table.slots[task].event(task)?;
     match check_post(source, table, event) {
@@ -203,7 +203,7 @@ pub(crate) fn bound<S: Source>(
     side: Side,
     link: usize,
 ) -> Option<u32>
-    ensures { result ≡ link_bound (means source.now).plan table.now.slots (event_type task side) link }
+    ensures { result ≡ link_bound (S.Source.means source.now).plan table.now.slots (event_type task side) link }
 {
     let ends = source.ends(link)?;
     if !goes_to(ends, task, side) {

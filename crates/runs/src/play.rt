@@ -15,7 +15,7 @@ use plans::{Event, Side, Source};
 // Enters an accepted event in its task's slot.
 pub(crate) fn enter<S: Source>(source: &S, table: &mut Table, event: Event)
     requires { event.task < 64 }
-    ensures { table.new.slots ≡ entered (means source.now).plan table.old.slots event }
+    ensures { table.new.slots ≡ entered (S.Source.means source.now).plan table.old.slots event }
 {
     let slot = &mut table.slots[event.task];
     match event.side {
@@ -29,8 +29,8 @@ pub(crate) fn enter<S: Source>(source: &S, table: &mut Table, event: Event)
 
 // Posts an event where its checks allow it.
 pub(crate) fn post_in<S: Source>(source: &S, table: &mut Table, event: Event) -> Result<(), Refusal>
-    ensures reply { result ≡ post_by (means source.now).plan table.old.slots event }
-    ensures slots { table.new.slots ≡ posted_by (means source.now).plan table.old.slots event }
+    ensures reply { result ≡ post_by (S.Source.means source.now).plan table.old.slots event }
+    ensures slots { table.new.slots ≡ posted_by (S.Source.means source.now).plan table.old.slots event }
 {
     check_post(source, table, event)?;
     enter(source, table, event);
@@ -43,8 +43,8 @@ pub(crate) fn take_back_in<S: Source>(
     table: &mut Table,
     event: Event,
 ) -> Result<(), Refusal>
-    ensures reply { result ≡ take_back_by (means source.now).plan table.old.slots event }
-    ensures slots { table.new.slots ≡ taken_back_by (means source.now).plan table.old.slots event }
+    ensures reply { result ≡ take_back_by (S.Source.means source.now).plan table.old.slots event }
+    ensures slots { table.new.slots ≡ taken_back_by (S.Source.means source.now).plan table.old.slots event }
 {
     check_take_back(source, table, event)?;
     table.slots[event.task].undo(event.side, event.word);
@@ -83,10 +83,10 @@ fn play_task<S: Source>(
     mut count: u32,
     budget: u32,
 ) -> Option<u32>
-    requires known { task < task_count (means source.now).plan }
-    requires routed { Routed (means source.now).plan (link_count (means source.now).plan) routes.now.last routes.now.before routes.now.next }
+    requires known { task < task_count (S.Source.means source.now).plan }
+    requires routed { Routed (S.Source.means source.now).plan (link_count (S.Source.means source.now).plan) routes.now.last routes.now.before routes.now.next }
     requires within { count ≤ budget }
-    ensures played { Played (means source.now).plan table.old.slots count budget table.new.slots result (λ _. ready_of (means source.now).plan table.new.slots task ≡ None) }
+    ensures played { Played (S.Source.means source.now).plan table.old.slots count budget table.new.slots result (λ _. ready_of (S.Source.means source.now).plan table.new.slots task ≡ None) }
     ensures others { (t : ℕ) → (t ≢ task) → slot_of table.new.slots t ≡ slot_of table.old.slots t }
 {
     // The links into a task come from other tasks, so its own events leave its limits as they are.
@@ -115,11 +115,11 @@ fn turn<S: Source>(
     count: u32,
     budget: u32,
 ) -> Option<u32>
-    requires known { task < task_count (means source.now).plan }
-    requires routed { Routed (means source.now).plan (link_count (means source.now).plan) routes.now.last routes.now.before routes.now.next }
-    requires rested { Rested (means source.now).plan table.old.slots due.old }
+    requires known { task < task_count (S.Source.means source.now).plan }
+    requires routed { Routed (S.Source.means source.now).plan (link_count (S.Source.means source.now).plan) routes.now.last routes.now.before routes.now.next }
+    requires rested { Rested (S.Source.means source.now).plan table.old.slots due.old }
     requires within { count ≤ budget }
-    ensures { Played (means source.now).plan table.old.slots count budget table.new.slots result (λ _. Rested (means source.now).plan table.new.slots due.new × (ready_of (means source.now).plan table.new.slots task ≡ None)) }
+    ensures { Played (S.Source.means source.now).plan table.old.slots count budget table.new.slots result (λ _. Rested (S.Source.means source.now).plan table.new.slots due.new × (ready_of (S.Source.means source.now).plan table.new.slots task ≡ None)) }
 {
     if (*due >> task) % 2 == 0 {
         return Some(count);
@@ -144,10 +144,10 @@ fn sweep<S: Source>(
     mut count: u32,
     budget: u32,
 ) -> Option<u32>
-    requires routed { Routed (means source.now).plan (link_count (means source.now).plan) routes.now.last routes.now.before routes.now.next }
-    requires rested { Rested (means source.now).plan table.old.slots due.old }
+    requires routed { Routed (S.Source.means source.now).plan (link_count (S.Source.means source.now).plan) routes.now.last routes.now.before routes.now.next }
+    requires rested { Rested (S.Source.means source.now).plan table.old.slots due.old }
     requires within { count ≤ budget }
-    ensures { Played (means source.now).plan table.old.slots count budget table.new.slots result (λ n. Rested (means source.now).plan table.new.slots due.new × (n ≡ count → Stuck (means source.now).plan table.new.slots)) }
+    ensures { Played (S.Source.means source.now).plan table.old.slots count budget table.new.slots result (λ n. Rested (S.Source.means source.now).plan table.new.slots due.new × (n ≡ count → Stuck (S.Source.means source.now).plan table.new.slots)) }
 {
     for task in 0..source.task_count() {
         let Some(more) = turn(source, table, routes, due, task, count, budget) else {
@@ -160,7 +160,7 @@ fn sweep<S: Source>(
 
 // Posts ready events until none is ready, and counts them; nothing if they are more than the budget.
 pub(crate) fn play<S: Source>(source: &S, table: &mut Table, budget: u32) -> Option<u32>
-    ensures { Played (means source.now).plan table.old.slots 0 budget table.new.slots result (λ _. Stuck (means source.now).plan table.new.slots) }
+    ensures { Played (S.Source.means source.now).plan table.old.slots 0 budget table.new.slots result (λ _. Stuck (S.Source.means source.now).plan table.new.slots) }
 {
     let routes = routes_of(source);
     let mut due = u64::MAX;
@@ -178,7 +178,7 @@ pub(crate) fn play<S: Source>(source: &S, table: &mut Table, budget: u32) -> Opt
 
 // Whether every task is done.
 pub(crate) fn finished<S: Source>(source: &S, table: &Table) -> bool
-    ensures { result ≡ all_done table.now.slots (task_count (means source.now).plan) }
+    ensures { result ≡ all_done table.now.slots (task_count (S.Source.means source.now).plan) }
 {
     for task in 0..source.task_count() {
         if !table.slots[task].done {

@@ -30,7 +30,7 @@ pub(crate) struct Limits {
 
 // The routes of a source.
 pub(crate) fn routes_of<S: Source>(source: &S) -> Routes
-    ensures { Routed (means source.now).plan (link_count (means source.now).plan) result.last result.before result.next }
+    ensures { Routed (S.Source.means source.now).plan (link_count (S.Source.means source.now).plan) result.last result.before result.next }
 {
     let mut last = [0u16; 64];
     let mut before = [0u16; 4096];
@@ -53,10 +53,10 @@ pub(crate) fn limits_of<S: Source>(
     routes: &Routes,
     task: usize,
 ) -> Limits
-    requires known { task < task_count (means source.now).plan }
-    requires routed { Routed (means source.now).plan (link_count (means source.now).plan) routes.now.last routes.now.before routes.now.next }
-    ensures start { result.start ≡ limit-of (means source.now).plan table.now.slots (event_type task Start) (link_count (means source.now).plan) }
-    ensures finish { result.finish ≡ limit-of (means source.now).plan table.now.slots (event_type task Finish) (link_count (means source.now).plan) }
+    requires known { task < task_count (S.Source.means source.now).plan }
+    requires routed { Routed (S.Source.means source.now).plan (link_count (S.Source.means source.now).plan) routes.now.last routes.now.before routes.now.next }
+    ensures start { result.start ≡ limit-of (S.Source.means source.now).plan table.now.slots (event_type task Start) (link_count (S.Source.means source.now).plan) }
+    ensures finish { result.finish ≡ limit-of (S.Source.means source.now).plan table.now.slots (event_type task Finish) (link_count (S.Source.means source.now).plan) }
 {
     let mut start: u32 = 65536;
     let mut finish: u32 = 65536;

@@ -29,8 +29,8 @@ impl<S: Source> Run<S> {
     // A run with no event standing.
     pub fn open(source: S) -> Run<S>
         ensures source { result.source ≡ source }
-        ensures empty { Shows (means source).plan result.table.slots (standing (means source).plan []) }
-        ensures laws { LawsOfRuns (means source).plan }
+        ensures empty { Shows (S.Source.means source).plan result.table.slots (standing (S.Source.means source).plan []) }
+        ensures laws { LawsOfRuns (S.Source.means source).plan }
     {
         let mut table = Table {
             slots: [Slot::new(0); 64],
@@ -44,7 +44,7 @@ impl<S: Source> Run<S> {
 
     // Posts an event; a refused one changes nothing.
     pub fn post(&mut self, event: Event) -> Result<(), Refusal>
-        ensures answers { Answers (means self.old.source).plan self.old.table.slots (Post event) (told result) self.new.table.slots }
+        ensures answers { Answers (S.Source.means self.old.source).plan self.old.table.slots (Post event) (told result) self.new.table.slots }
         ensures source { self.new.source ≡ self.old.source }
         ensures refused { is_ok result ≡ false → self.new ≡ self.old }
         ensures others { (t : ℕ) → (t ≢ event.task) → slot_of self.new.table.slots t ≡ slot_of self.old.table.slots t }
@@ -54,7 +54,7 @@ impl<S: Source> Run<S> {
 
     // Takes an event back; a refused take-back changes nothing.
     pub fn take_back(&mut self, event: Event) -> Result<(), Refusal>
-        ensures answers { Answers (means self.old.source).plan self.old.table.slots (TakeBack event) (told result) self.new.table.slots }
+        ensures answers { Answers (S.Source.means self.old.source).plan self.old.table.slots (TakeBack event) (told result) self.new.table.slots }
         ensures source { self.new.source ≡ self.old.source }
         ensures refused { is_ok result ≡ false → self.new ≡ self.old }
         ensures others { (t : ℕ) → (t ≢ event.task) → slot_of self.new.table.slots t ≡ slot_of self.old.table.slots t }
@@ -64,7 +64,7 @@ impl<S: Source> Run<S> {
 
     // The ready events, by task number.
     fn found(&self) -> ReadyEvents
-        ensures ready { take result.count result.events ≡ ready_to (means self.now.source).plan self.now.table.slots (task_count (means self.now.source).plan) }
+        ensures ready { take result.count result.events ≡ ready_to (S.Source.means self.now.source).plan self.now.table.slots (task_count (S.Source.means self.now.source).plan) }
         ensures count { result.count ≤ length result.events }
     {
         let none = Event {
@@ -85,7 +85,7 @@ impl<S: Source> Run<S> {
 
     // Adds the ready events, by task number, to a list.
     pub fn ready(&self, out: &mut List<'_, Event>) -> Result<(), Refusal>
-        ensures answers { Answers (means self.now.source).plan self.now.table.slots (ReadyList (length out.old.room.now - out.old.len)) (written result (lists (added out.old.len out.new.len out.new.room.now))) self.now.table.slots }
+        ensures answers { Answers (S.Source.means self.now.source).plan self.now.table.slots (ReadyList (length out.old.room.now - out.old.len)) (written result (lists (added out.old.len out.new.len out.new.room.now))) self.now.table.slots }
         ensures front { take out.old.len out.new.room.now ≡ take out.old.len out.old.room.now }
         ensures beyond { drop out.new.len out.new.room.now ≡ drop out.new.len out.old.room.now }
         ensures refused { is_ok result ≡ false → (out.new.len ≡ out.old.len) × (out.new.room.now ≡ out.old.room.now) }
@@ -101,8 +101,8 @@ impl<S: Source> Run<S> {
 
     // Writes five bytes a task.
     pub fn state_table(&self, out: &mut [u8]) -> Result<(), Refusal>
-        ensures answers { Answers (means self.now.source).plan self.now.table.slots (StateTable (length out.old)) (written result (fills (take (5 * task_count (means self.now.source).plan) out.new))) self.now.table.slots }
-        ensures beyond { drop (5 * task_count (means self.now.source).plan) out.new ≡ drop (5 * task_count (means self.now.source).plan) out.old }
+        ensures answers { Answers (S.Source.means self.now.source).plan self.now.table.slots (StateTable (length out.old)) (written result (fills (take (5 * task_count (S.Source.means self.now.source).plan) out.new))) self.now.table.slots }
+        ensures beyond { drop (5 * task_count (S.Source.means self.now.source).plan) out.new ≡ drop (5 * task_count (S.Source.means self.now.source).plan) out.old }
         ensures refused { is_ok result ≡ false → out.new ≡ out.old }
     {
         let tasks = self.source.task_count();
@@ -118,7 +118,7 @@ impl<S: Source> Run<S> {
 
     // Plays on to the end, in the run's table, and puts the table back however that comes out.
     pub fn verdict(&mut self, budget: u32) -> Result<Outcome, Refusal>
-        ensures answers { Answers (means self.old.source).plan self.old.table.slots (Verdict budget) (judged result) self.old.table.slots }
+        ensures answers { Answers (S.Source.means self.old.source).plan self.old.table.slots (Verdict budget) (judged result) self.old.table.slots }
         ensures same { self.new ≡ self.old }
     {
         if self.source.task_count() == 0 {
@@ -141,7 +141,7 @@ impl<S: Source> Run<S> {
 
     // Performs any call.
     fn perform(&mut self, call: Call) -> Answer
-        ensures answers { Answers (means self.old.source).plan self.old.table.slots call (said result) self.new.table.slots }
+        ensures answers { Answers (S.Source.means self.old.source).plan self.old.table.slots call (said result) self.new.table.slots }
         ensures source { self.new.source ≡ self.old.source }
         ensures refused { (x : Reason) → result ≡ Refused x → self.new ≡ self.old }
     {
@@ -182,7 +182,7 @@ impl<S: Source> Run<S> {
 
     // Performs calls one after another and adds their answers to a list; nothing is done where the list has too few free entries.
     fn perform_all(&mut self, calls: &[Call], out: &mut List<'_, Answer>) -> Result<(), Refusal>
-        ensures answers { is_ok result ≡ true → AnswersAll (means self.old.source).plan self.old.table.slots calls.now (map said (added out.old.len out.new.len out.new.room.now)) self.new.table.slots }
+        ensures answers { is_ok result ≡ true → AnswersAll (S.Source.means self.old.source).plan self.old.table.slots calls.now (map said (added out.old.len out.new.len out.new.room.now)) self.new.table.slots }
         ensures enough { result ≡ room_for (out.old.len + length calls.now) (length out.old.room.now) }
         ensures refused { is_ok result ≡ false → (self.new ≡ self.old) × (out.new.len ≡ out.old.len) × (out.new.room.now ≡ out.old.room.now) }
         ensures source { self.new.source ≡ self.old.source }
