@@ -11,7 +11,7 @@ import glob
 import re
 import sys
 
-TOKEN = re.compile(r"[A-Za-z_ℕℤ∥⊥₁Σ][A-Za-z0-9_'′ℕℤ∥⊥₁]*(?:-[A-Za-z0-9_'′ℕℤ∥⊥₁]+)*")
+TOKEN = re.compile(r"(?<![0-9A-Za-z_'])[A-Za-z_ℕℤ∥⊥₁Σ][A-Za-z0-9_'′ℕℤ∥⊥₁]*(?:-[A-Za-z0-9_'′ℕℤ∥⊥₁]+)*")
 CRATES = ("bits", "plans", "runs", "pipeline", "worked")
 OWN_PATH = re.compile(r"Rattle\.(?:%s)\." % "|".join(CRATES))
 USE = re.compile(r"^(?:ghost )?use (\S+?)\.\{([^}]*)\};?$", re.M)

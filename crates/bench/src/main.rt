@@ -18,14 +18,14 @@ fn ask(plan: &Packed, question: u32, turn: u32) -> u32 {
     let place = turn & 0xFFFF;
     let word = ((turn & 0xF) << 24) | ((turn & 0xF0) << 12) | (turn & 0xF00) | ((turn >> 12) & 0xF);
     match question {
-        0 => (plan.task_count() & 0x_fF) as u32,
+        0 => (plan.task_count() & 0xFF) as u32,
         1 => plan.word_count(task).unwrap_or(0),
         2 => plan.word_at(task, place).unwrap_or(0),
         3 => plan.place_of(task, word).unwrap_or(0),
         4 => plan.next_word(task, word).unwrap_or(0),
-        5 => (plan.link_count() & 0x_fF) as u32,
+        5 => (plan.link_count() & 0xFF) as u32,
         6 => match plan.ends(link) {
-            Some(ends) => (ends.to & 0x_fF) as u32,
+            Some(ends) => (ends.to & 0xFF) as u32,
             None => 0,
         },
         _ => plan.target(link, word).unwrap_or(0),
