@@ -99,6 +99,10 @@ def main():
             new[t] = s
             return s
 
+        if "AllByRecursion as All" in text[p]:
+            # a library's word may not stand for another word of the library
+            text[p] = re.sub(r"(?<![\w'·.-])All(?![\w'-])", "AllByRecursion", text[p].replace("AllByRecursion as All", "AllByRecursion"))
+        text[p] = re.sub(r"\b(rank|limit|progress)-of\b", r"\1_of", text[p]) if p.endswith(".rt") else text[p]
         if p.endswith(".antt"):
             text_new = TOKEN.sub(turn, text[p])
             if is_answer(p):

@@ -2,7 +2,7 @@
 use Rattle.std.proofs.Common.{◌≡◌, ℕ, zero, suc, ◌+◌, ◌-◌, ◌<◌, ◌≤◌, true, ◌&&◌, ◌||◌, eqb, ltb, leb, List, [], ◌∷◌, ◌++◌, length, get_or, replicate, Ok, refl, ap, ◌∙◌, subst, arith}
 use Rattle.std.proofs.lemmas.List.{length-append, length-replicate}
 use Rattle.std.proofs.lemmas.Bool.{and_from, and_parts, lt-ltb, le-leb, eq-eqb, leb-true, ltb-true, eqb-true}
-use Rattle.std.specs.List.{AllByRecursion as All}
+use Rattle.std.specs.List.{AllByRecursion}
 use Rattle.plans.specs.declared.fault.Kind.TheVariants as kind
 use Rattle.plans.specs.declared.shapes.Params.{Params}
 use Rattle.plans.specs.declared.shapes.Link.{Link}
@@ -65,7 +65,7 @@ task_ok bs at x h =
       limit = leb-true (count (filled qs)) most_words (unless_ok (leb (count (filled qs)) most_words) kind.Words at b.0.1 c.0 c.1);
     }))
 
-good_all : (ps : List Params) → All (λ p. good_task p ≡ true) ps → Good ps
+good_all : (ps : List Params) → AllByRecursion (λ p. good_task p ≡ true) ps → Good ps
 good_all [] all = refl
 good_all (p ∷ ps) all = and_from (good_task p) (good_tasks ps) all.0 (good_all ps all.1)
 
@@ -99,7 +99,7 @@ rule_ok bs sources at x h =
     let whole : (record { pick = a.0.0; add = twos 9 b.0.0; divisor = c.0.0 }, c.0.1) ≡ x = (let e = c.2 in cc) in
     subst (λ q. ltb 0 q.0.divisor ≡ true) whole some.0
 
-divide_filled : (k : ℕ) (rs : List Rule) → All (λ r. ltb 0 r.divisor ≡ true) rs → divide_all (rs ++ replicate k no_rule) ≡ true
+divide_filled : (k : ℕ) (rs : List Rule) → AllByRecursion (λ r. ltb 0 r.divisor ≡ true) rs → divide_all (rs ++ replicate k no_rule) ≡ true
 divide_filled zero [] all = refl
 divide_filled (suc k) [] all = divide_filled k [] all
 divide_filled k (r ∷ rs) all = and_from (ltb 0 r.divisor) (divide_all (rs ++ replicate k no_rule)) all.0 (divide_filled k rs all.1)
@@ -129,7 +129,7 @@ link_ok bs ts good at x h =
     subst (λ q. good_link (length ts) q.0 ≡ true) whole
     (and_from (join (length ts) e) _ joins (and_from (eqb (length (filled_by no_rule rs)) 4) _ (eq-eqb (length (filled_by no_rule rs)) 4 four) (divide_filled k rs all.1)))
 
-good_links_all : (n : ℕ) (ls : List Link) → All (λ l. good_link n l ≡ true) ls → good_links n ls ≡ true
+good_links_all : (n : ℕ) (ls : List Link) → AllByRecursion (λ l. good_link n l ≡ true) ls → good_links n ls ≡ true
 good_links_all n [] all = refl
 good_links_all n (l ∷ ls) all = and_from (good_link n l) (good_links n ls) all.0 (good_links_all n ls all.1)
 

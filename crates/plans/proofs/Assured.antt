@@ -1,7 +1,7 @@
 -- What holds of the names, tasks and words of any bytes, for the crates above.
 use Rattle.std.proofs.Common.{◌≡◌, ℕ, zero, suc, ◌+◌, ◌-◌, ◌^◌, ◌<◌, ◌≤◌, List, [], ◌∷◌, ◌++◌, map, length, get_or, take, drop, replicate, Some, Ok, Err, Result, sym, refl, ap, ◌∙◌, subst, arith}
 use Rattle.std.specs.Option.{option_map}
-use Rattle.std.specs.List.{AllByRecursion as All, slice_get}
+use Rattle.std.specs.List.{AllByRecursion, slice_get}
 use Rattle.std.proofs.lemmas.List.{length-append, length-replicate, drop_at, get_or-drop, take-append-drop}
 use Rattle.plans.specs.declared.fault.Fault.{Fault}
 use Rattle.plans.specs.declared.param.Param.{Param}
@@ -27,11 +27,11 @@ use Rattle.plans.proofs.Writing.{read_writes}
 record Used (p : Params) : Type 0 where
   params : List Param
   few : length params ≤ 4
-  ranges : All Range params
+  ranges : AllByRecursion Range params
   long : length params ≡ p.used
   same : words p.each ≡ words (filled params)
 
-used_by : (us : List Task) → All TaskLimits us → (t : ℕ) → Used (task_of (map shaped us) t)
+used_by : (us : List Task) → AllByRecursion TaskLimits us → (t : ℕ) → Used (task_of (map shaped us) t)
 unfolding tuples
 used_by [] all t = record { params = []; few = omega arith; ranges = tt; long = refl; same = sym (unused_are_zero []) }
 used_by (u ∷ us) all zero = record { params = u.params; few = all.0.few_params; ranges = all.0.ranges; long = refl; same = refl }
@@ -46,7 +46,7 @@ used bs t = by (checked bs) refl
     by (Err f) e = used_by [] tt t
 
 -- a word of parameters that are filled up to four
-module _ (ps : List Param) (few : length ps ≤ 4) (ranges : All Range ps) (w i : ℕ) (e : place_in (words (filled ps)) w ≡ Some i) where
+module _ (ps : List Param) (few : length ps ≤ 4) (ranges : AllByRecursion Range ps) (w i : ℕ) (e : place_in (words (filled ps)) w ≡ Some i) where
   abbrev k : ℕ
   k = 4 - length ps
 

@@ -12,7 +12,7 @@ use Rattle.plans.specs.declared.param.Param.{Param}
 use Rattle.plans.specs.Reads.{on_ok, next, unless, give, lifted, number, number_that, Read, times}
 use Rattle.plans.specs.Layout.{no_param, param, task}
 use Rattle.plans.specs.Words.{base, size, count, hold_bytes, Bytes}
-use Rattle.std.specs.List.{AllByRecursion as All}
+use Rattle.std.specs.List.{AllByRecursion}
 
 pub on_ok_ok : {A B : Type 0} (r : Result A Fault) (f : A → Result B Fault) (y : B) → on_ok r f ≡ Ok y → (x : A) × (r ≡ Ok x) × (f x ≡ Ok y)
 on_ok_ok (Ok x) f y e = (x, refl, e)
@@ -63,7 +63,7 @@ param_ok bs at x h =
 
 -- what holds of each accepted read holds of all of them; so does what holds of the place before each, and then of the one after it
 pub times_from : {A : Type 0} (I : ℕ → Type 0) (P : A → Type 0) (m : Read A) → ((at : ℕ) (x : A × ℕ) → I at → m at ≡ Ok x → P x.0 × I x.1)
-    → (n at : ℕ) (x : List A × ℕ) → I at → times n m at ≡ Ok x → (length x.0 ≡ n) × All P x.0
+    → (n at : ℕ) (x : List A × ℕ) → I at → times n m at ≡ Ok x → (length x.0 ≡ n) × AllByRecursion P x.0
 times_from I P m each zero at x from h = let whole : ([], at) ≡ x = cc in let is = ap (λ q. q.0) whole in (ap length (sym is), rw (← is) tt)
 times_from I P m each (suc n) at x from h =
     let a = on_ok_ok (m at) _ x h in
@@ -75,14 +75,14 @@ times_from I P m each (suc n) at x from h =
     (ap length (sym is) ∙ ap suc rest.0, rw (← is) (one.0, rest.1))
 
 pub times_ok : {A : Type 0} (P : A → Type 0) (m : Read A) → ((at : ℕ) (x : A × ℕ) → m at ≡ Ok x → P x.0)
-    → (n at : ℕ) (x : List A × ℕ) → times n m at ≡ Ok x → (length x.0 ≡ n) × All P x.0
+    → (n at : ℕ) (x : List A × ℕ) → times n m at ≡ Ok x → (length x.0 ≡ n) × AllByRecursion P x.0
 times_ok P m each n at x h = times_from (λ _. Unit {0}) P m (λ at x _ e. (each at x e, tt)) n at x tt h
 
 -- parameters that are ranges of bytes, filled up to four
 abbrev pub Range : Param → Type 0
 Range p = (p.low ≤ p.high) × (p.high < base)
 
-pub bytes_filled : (k : ℕ) (ps : List Param) → All Range ps → Bytes (ps ++ replicate k no_param)
+pub bytes_filled : (k : ℕ) (ps : List Param) → AllByRecursion Range ps → Bytes (ps ++ replicate k no_param)
 bytes_filled zero [] all = refl
 bytes_filled (suc k) [] all = bytes_filled k [] all
 bytes_filled k (p ∷ ps) all = and_from (ltb p.high base) (hold_bytes (ps ++ replicate k no_param)) (lt-ltb p.high base all.0.1) (bytes_filled k ps all.1)
@@ -93,7 +93,7 @@ count_filled zero [] = refl
 count_filled (suc k) [] = omega (arith, count_filled k [])
 count_filled k (p ∷ ps) = ap (λ n. size p * n) (count_filled k ps)
 
-pub count_some : (ps : List Param) → All Range ps → 0 < count ps
+pub count_some : (ps : List Param) → AllByRecursion Range ps → 0 < count ps
 unfolding count
 count_some [] all = omega arith
 count_some (p ∷ ps) all = mul-pos (let r = all.0 in omega arith) (count_some ps all.1)

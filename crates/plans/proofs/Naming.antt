@@ -1,6 +1,6 @@
 -- The names of a record: they lie within it, and are names.
 use Rattle.std.proofs.Common.{◌≡◌, ℕ, zero, suc, ◌+◌, ◌*◌, ◌/◌, ◌%◌, ◌<◌, ◌≤◌, Bool, true, ◌&&◌, eqb, ltb, leb, List, [], ◌∷◌, length, get_or, take, drop, Ok, Err, Result, sym, refl, ap, ◌∙◌, subst, inl, inr, arith}
-use Rattle.std.specs.List.{AllByRecursion as All}
+use Rattle.std.specs.List.{AllByRecursion}
 use Rattle.std.proofs.lemmas.List.{length-take-le, length-drop, get_or-take, drop_more}
 use Rattle.std.proofs.lemmas.Bool.{cases_Bool, and_from, and_parts, le-leb, leb-true, ltb-false}
 use Rattle.bits.specs.Bits.{bits, field, spelled}
@@ -109,7 +109,7 @@ module _ (bs : List ℕ) (narrow : Narrow bs) where
         omega (arith, all.2),
       )
 
-  names_all : (xs : List Name) → All (λ x. good_name bs x ≡ true) xs → good_names bs xs ≡ true
+  names_all : (xs : List Name) → AllByRecursion (λ x. good_name bs x ≡ true) xs → good_names bs xs ≡ true
   names_all [] all = refl
   names_all (x ∷ xs) all = and_from (good_name bs x) (good_names bs xs) all.0 (names_all xs all.1)
 
@@ -150,7 +150,7 @@ names_held bs = by (checked bs) refl
     by (Ok q) e = names_read bs q (checked_ok bs q e).0
     by (Err f) e = (refl, λ _. refl)
 
-letters_are : (bs : List ℕ) → are_letters bs ≡ true → All (λ b. (33 ≤ b) × (b ≤ 126)) bs
+letters_are : (bs : List ℕ) → are_letters bs ≡ true → AllByRecursion (λ b. (33 ≤ b) × (b ≤ 126)) bs
 letters_are [] h = tt
 letters_are (b ∷ bs) h =
     let all = and_parts (is_letter b) (are_letters bs) h in

@@ -1,6 +1,6 @@
 -- The parts that are read from a record, and the description that it is the writing of.
 use Rattle.std.proofs.Common.{◌≡◌, map, length}
-use Rattle.std.specs.List.{AllByRecursion as All}
+use Rattle.std.specs.List.{AllByRecursion}
 use Rattle.plans.specs.declared.shapes.Params.{Params}
 use Rattle.plans.specs.Layout.{Parts, filled, filled_by, no_rule}
 use Rattle.plans.specs.Description.{Task, Description}
@@ -16,4 +16,4 @@ pub record Parted (q : Parts) (d : Description) : Type 0 where
 
 -- no link goes from a task to the same task
 abbrev pub Apart : Description → Type 0
-Apart d = All (λ l. l.ends.from ≡ l.ends.to → ⊥) d.links
+Apart d = AllByRecursion (λ l. l.ends.from ≡ l.ends.to → ⊥) d.links

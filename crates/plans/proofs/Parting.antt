@@ -1,6 +1,6 @@
 -- Each part of a record, forth from its writing: a part with its limits is read where its writing stands.
 use Rattle.std.proofs.Common.{◌≡◌, ℕ, zero, suc, ◌+◌, ◌-◌, ◌/◌, ◌<◌, ◌≤◌, Bool, true, cond, not, ◌&&◌, ◌||◌, eqb, ltb, leb, ◌⊎◌, List, [], ◌∷◌, ◌++◌, length, get_or, Ok, sym, refl, ap, ◌∙◌, subst, inl, inr, arith}
-use Rattle.std.specs.List.{flat_map, AllByRecursion as All}
+use Rattle.std.specs.List.{flat_map, AllByRecursion}
 use Rattle.std.proofs.lemmas.Bool.{le-leb, lt-ltb, eq-eqb, ne_eqb, and_from, or_left, or_right, not_from_false}
 use Rattle.bits.specs.Bits.{bits, digits}
 use Rattle.plans.specs.declared.fault.Kind.{Kind}
@@ -25,7 +25,7 @@ unless_from test k begin at t = ap (λ b. unless b k begin at) t
 
 -- rows of parts that are read as they are
 rows_forth : {A : Type 0} (s : List ℕ) (m : Read A) (w : A → List ℕ) (Good : A → Type 0) → Forth s m w Good itself itself
-    → (at end : ℕ) (xs : List A) → All Good xs → Spells s at (flat_map w xs) end → times (length xs) m at ≡ Ok (xs, end)
+    → (at end : ℕ) (xs : List A) → AllByRecursion Good xs → Spells s at (flat_map w xs) end → times (length xs) m at ≡ Ok (xs, end)
 rows_forth s m w Good each at end xs all sp =
     let r = times_forth s m w Good itself itself each at end xs all sp in
     r.1 ∙ ap (λ ys. Ok (ys, end)) (sym (same_rows xs r.0 r.2))
@@ -143,7 +143,7 @@ join_from n e from to apart =
     (not_from_false (eqb e.from e.to) (ne_eqb e.from e.to apart))
 
 -- a task has at most four parameters
-pub params_few : (us : List Task) → All TaskLimits us → (t : ℕ) → length (get_or us t (record { params = []; name = [] })).params ≤ 4
+pub params_few : (us : List Task) → AllByRecursion TaskLimits us → (t : ℕ) → length (get_or us t (record { params = []; name = [] })).params ≤ 4
 params_few [] all t = omega arith
 params_few (u ∷ us) all zero = all.0.few_params
 params_few (u ∷ us) all (suc t) = params_few us all.1 t
@@ -166,7 +166,7 @@ link_forth bs tasks d alike few short at end l good sp =
     let a = ends_forth bs at m e (omega arith) (omega arith) (spells_first s A B at end sp) in
     let b = unless_from (join (length tasks) e) kind.Ends at m (join_from (length tasks) e (omega arith) (omega arith) good.1) in
     let ruled : length rs ≡ n = g.ruled ∙ sym (alike.used e.to) in
-    let rules = subst (λ k. All (RuleLimits k) rs) (sym (alike.used e.from)) g.rules in
+    let rules = subst (λ k. AllByRecursion (RuleLimits k) rs) (sym (alike.used e.from)) g.rules in
     let most : sources ≤ 4 = omega (arith, alike.used e.from, short e.from) in
     let c = rows_forth s (rule bs sources) rule_bits (RuleLimits sources) (rule_forth bs sources most) m end rs rules (spells_rest s A B at end sp) in
     let c' = subst (λ k. times k (rule bs sources) m ≡ Ok (rs, end)) ruled c in (

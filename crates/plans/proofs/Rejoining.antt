@@ -1,6 +1,6 @@
 -- Links, the padding, names and counts, back from what is read.
 use Rattle.std.proofs.Common.{◌≡◌, ℕ, ◌/◌, ◌≤◌, ◌&&◌, eqb, leb, List, ◌++◌, length, replicate, Ok, sym, refl, ap, ◌∙◌, subst, arith}
-use Rattle.std.specs.List.{flat_map, AllByRecursion as All}
+use Rattle.std.specs.List.{flat_map, AllByRecursion}
 use Rattle.std.proofs.lemmas.Bool.{leb-true, eqb-true, and_parts}
 use Rattle.bits.specs.Bits.{bits, digits}
 use Rattle.bits.proofs.Digits.{digits_zero}
@@ -60,7 +60,7 @@ link_back bs tasks d alike at x h =
           from_known = omega (arith, two.0, alike.long);
           to_known = omega (arith, two.1, alike.long);
           ruled = nc.1 ∙ alike.used e.to;
-          rules = subst (λ k. All (RuleLimits k) rs) (alike.used e.from) nc.2;
+          rules = subst (λ k. AllByRecursion (RuleLimits k) rs) (alike.used e.from) nc.2;
         },
         two.2,
       ),

@@ -1,6 +1,6 @@
 -- The writing of a description with its limits is read.
 use Rattle.std.proofs.Common.{◌≡◌, ℕ, ◌+◌, ◌*◌, ◌≤◌, ◌&&◌, eqb, leb, List, [], ◌∷◌, ◌++◌, map, length, drop, replicate, Ok, sym, refl, ap, ◌∙◌, subst, arith, pow_pos}
-use Rattle.std.specs.List.{flat_map, AllByRecursion as All}
+use Rattle.std.specs.List.{flat_map, AllByRecursion}
 use Rattle.std.proofs.lemmas.List.{append-nil, length-append, length-replicate, map-id, drop_all}
 use Rattle.std.proofs.lemmas.Bool.{eq-eqb, le-leb, and_from}
 use Rattle.bits.specs.Bits.{bits, digits}
@@ -20,7 +20,7 @@ use Rattle.plans.proofs.Rejoining.{link_seen, link_read, LinkGood, unseen, count
 use Rattle.plans.proofs.Writing.{alike, parted_by, front_of}
 use Rattle.plans.proofs.Parting.{unless_from, task_forth, params_few, link_forth, name_forth}
 
-both : {X : Type 0} (P Q : X → Type 0) (xs : List X) → All P xs → All Q xs → All (λ x. P x × Q x) xs
+both : {X : Type 0} (P Q : X → Type 0) (xs : List X) → AllByRecursion P xs → AllByRecursion Q xs → AllByRecursion (λ x. P x × Q x) xs
 both P Q [] a b = tt
 both P Q (x ∷ xs) a b = ((a.0, b.0), both P Q xs a.1 b.1)
 

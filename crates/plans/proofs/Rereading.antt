@@ -1,6 +1,6 @@
 -- Each part of a record, back from what is read: the writing of a part with its limits stands there.
 use Rattle.std.proofs.Common.{◌≡◌, ℕ, ◌-◌, ◌<◌, ◌≤◌, Bool, true, false, cond, ◌||◌, eqb, ltb, leb, ◌⊎◌, List, ◌++◌, map, length, Ok, sym, refl, ap, ◌∙◌, subst, inl, inr, arith}
-use Rattle.std.specs.List.{flat_map, AllByRecursion as All}
+use Rattle.std.specs.List.{flat_map, AllByRecursion}
 use Rattle.std.proofs.lemmas.List.{map-id}
 use Rattle.std.proofs.lemmas.Bool.{leb-true, ltb-true, eqb-true, or_cases}
 use Rattle.bits.specs.Bits.{bits, digits}
@@ -59,7 +59,7 @@ params_bits ps = digits 3 (length ps) ++ flat_map param_bits ps
 
 pub record ParamsLimits (ps : List Param) : Type 0 where
   pub few : length ps ≤ 4
-  pub ranges : All Range ps
+  pub ranges : AllByRecursion Range ps
   pub words : count ps ≤ most_words
 
 abbrev pub shape : List Param → Params

@@ -1,6 +1,6 @@
 -- Reads of parts one after another, and the writing of the parts: back from what is read, and forth from what stands there.
 use Rattle.std.proofs.Common.{◌≡◌, ℕ, zero, suc, ◌+◌, List, [], ◌∷◌, ◌++◌, map, length, Ok, sym, refl, ap, ◌∙◌, subst, arith}
-use Rattle.std.specs.List.{flat_map, AllByRecursion as All}
+use Rattle.std.specs.List.{flat_map, AllByRecursion}
 use Rattle.std.proofs.lemmas.List.{append_assoc}
 use Rattle.plans.specs.Reads.{Read, times}
 use Rattle.plans.proofs.Fields.{on_ok_ok}
@@ -21,7 +21,7 @@ Once {Y} w Good f = (y z : Y) (r s : List ℕ) → Good y → Good z → w y ++ 
 
 module _ {A Y C : Type 0} (s : List ℕ) (m : Read A) (w : Y → List ℕ) (Good : Y → Type 0) (f : Y → C) (g : A → C) where
   pub times_back : Back s m w Good f g → (n at : ℕ) (x : List A × ℕ) → times n m at ≡ Ok x
-      → (ys : List Y) × (length ys ≡ n) × All Good ys × (map f ys ≡ map g x.0) × Spells s at (flat_map w ys) x.1
+      → (ys : List Y) × (length ys ≡ n) × AllByRecursion Good ys × (map f ys ≡ map g x.0) × Spells s at (flat_map w ys) x.1
   times_back each zero at x h =
       let whole = ok_is ([], at) x h in
       ([], refl, tt, ap (λ q. map g q.0) whole, subst (λ q. Spells s at [] q.1) whole (spells_none s at))
@@ -38,7 +38,7 @@ module _ {A Y C : Type 0} (s : List ℕ) (m : Read A) (w : Y → List ℕ) (Good
         subst (λ q. Spells s at (w one.0 ++ flat_map w rest.0) q.1) whole (spells_then s (w one.0) (flat_map w rest.0) at a.0.1 b.0.1 one.3 rest.4),
       )
 
-  pub times_forth : Forth s m w Good f g → (at end : ℕ) (ys : List Y) → All Good ys → Spells s at (flat_map w ys) end
+  pub times_forth : Forth s m w Good f g → (at end : ℕ) (ys : List Y) → AllByRecursion Good ys → Spells s at (flat_map w ys) end
       → (xs : List A) × (times (length ys) m at ≡ Ok (xs, end)) × (map f ys ≡ map g xs)
   times_forth each at end [] all sp = ([], ap (λ e. Ok ([], e)) (let e : at ≡ end = omega (arith, sp.ends) in e), refl)
   times_forth each at end (y ∷ ys) all sp =
@@ -48,7 +48,7 @@ module _ {A Y C : Type 0} (s : List ℕ) (m : Read A) (w : Y → List ℕ) (Good
       (a.0 ∷ b.0, on_ok_from (m at) _ (a.0, mid) _ a.1 (on_ok_from (times (length ys) m mid) _ (b.0, end) _ b.1 refl), λ i. a.2 i ∷ b.2 i)
 
 pub joined_once : {Y C : Type 0} (w : Y → List ℕ) (Good : Y → Type 0) (f : Y → C) → Once w Good f
-    → (ys zs : List Y) (r s : List ℕ) → length ys ≡ length zs → All Good ys → All Good zs → flat_map w ys ++ r ≡ flat_map w zs ++ s → (map f ys ≡ map f zs) × (r ≡ s)
+    → (ys zs : List Y) (r s : List ℕ) → length ys ≡ length zs → AllByRecursion Good ys → AllByRecursion Good zs → flat_map w ys ++ r ≡ flat_map w zs ++ s → (map f ys ≡ map f zs) × (r ≡ s)
 joined_once w Good f each [] [] r s long a b e = (refl, e)
 joined_once w Good f each [] (z ∷ zs) r s long a b e = absurd (omega arith)
 joined_once w Good f each (y ∷ ys) [] r s long a b e = absurd (omega arith)

@@ -1,6 +1,6 @@
 -- No two descriptions with their limits have the same writing.
 use Rattle.std.proofs.Common.{◌≡◌, ℕ, zero, suc, ◌<◌, ◌≤◌, cond, eqb, List, [], ◌∷◌, ◌++◌, map, length, get_or, replicate, pos, negsuc, ◌≤ℤ◌, sym, refl, ap, ◌∙◌, arith}
-use Rattle.std.specs.List.{flat_map, AllByRecursion as All}
+use Rattle.std.specs.List.{flat_map, AllByRecursion}
 use Rattle.std.proofs.lemmas.List.{append_assoc, append-nil, append_cancel_left, length-append}
 use Rattle.std.proofs.ByRecursion.{All-weaker}
 use Rattle.bits.specs.Bits.{digits}
@@ -91,7 +91,7 @@ ends_once p q r s a b e =
 record LinkFits (n : ℕ → ℕ) (l : Link) : Type 0 where
   ends : (l.ends.from < 32) × (l.ends.to < 32)
   ruled : length l.rules ≡ n l.ends.to
-  rules : All RuleFits l.rules
+  rules : AllByRecursion RuleFits l.rules
 
 link_once : (n : ℕ → ℕ) → Once link_bits (LinkFits n) itself
 link_once n k l r s a b e =
@@ -110,7 +110,7 @@ params_at [] t = refl
 params_at (u ∷ us) zero = refl
 params_at (u ∷ us) (suc t) = params_at us t
 
-links_fit : (d : Description) (pss : List (List Param)) → map (λ t. t.params) d.tasks ≡ pss → Limits d → All (LinkFits (λ t. length (get_or pss t []))) d.links
+links_fit : (d : Description) (pss : List (List Param)) → map (λ t. t.params) d.tasks ≡ pss → Limits d → AllByRecursion (LinkFits (λ t. length (get_or pss t []))) d.links
 links_fit d pss same limits = All-weaker (LinkLimits d) (LinkFits (λ t. length (get_or pss t []))) fit d.links limits.each_link
   where
     fit : (l : Link) → LinkLimits d l → LinkFits (λ t. length (get_or pss t [])) l

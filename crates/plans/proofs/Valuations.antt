@@ -1,7 +1,7 @@
 -- The valuations of parameters: they are the tuples, each has a word of its own, and the rules give the same at either.
 use Rattle.std.proofs.Common.{◌≡◌, ℕ, zero, suc, ◌+◌, ◌-◌, ◌*◌, ◌/◌, ◌%◌, ◌<◌, ◌≤◌, cond, ◌||◌, ltb, List, [], ◌∷◌, ◌++◌, map, length, get_or, take, replicate, ℤ, pos, negsuc, ◌+ℤ◌, Some, None, sym, refl, ap, ◌∙◌, subst, inl, inr, mod-lt, arith}
 use Rattle.std.specs.Option.{option_map}
-use Rattle.std.specs.List.{AllByRecursion as All, slice_get}
+use Rattle.std.specs.List.{AllByRecursion, slice_get}
 use Rattle.std.specs.Int.Digits.{AllBelowBase}
 use Rattle.std.proofs.ByRecursion.{All-append}
 use Rattle.std.proofs.lemmas.List.{length-append, length-replicate, take_at}
@@ -66,7 +66,7 @@ valued_length [] (v ∷ vs) h = absurd h
 valued_length (p ∷ ps) [] h = absurd h
 valued_length (p ∷ ps) (v ∷ vs) h = ap suc (valued_length ps vs h.1)
 
-valued_under : (ps : List Param) (v : List ℕ) → All Range ps → Valued (domains_of ps) v → AllBelowBase base v
+valued_under : (ps : List Param) (v : List ℕ) → AllByRecursion Range ps → Valued (domains_of ps) v → AllBelowBase base v
 valued_under [] [] r h = tt
 valued_under [] (v ∷ vs) r h = absurd h
 valued_under (p ∷ ps) [] r h = absurd h
@@ -82,16 +82,16 @@ zeros ps = replicate (4 - length ps) 0
 pub filled_word : (ps : List Param) (v : List ℕ) → Valued (domains_of ps) v → word_for v ≡ word_of (v ++ zeros ps)
 filled_word ps v h = ap (λ n. word_of (v ++ replicate (4 - n) 0)) (valued_length ps v h)
 
-pub values_told : (ps : List Param) (v : List ℕ) → length ps ≤ 4 → All Range ps → Valued (domains_of ps) v → values_of (word_for v) ≡ v ++ zeros ps
+pub values_told : (ps : List Param) (v : List ℕ) → length ps ≤ 4 → AllByRecursion Range ps → Valued (domains_of ps) v → values_of (word_for v) ≡ v ++ zeros ps
 values_told ps v few r h =
     ap values_of (filled_word ps v h)
     ∙ values_of_word_of (v ++ zeros ps) (omega (arith, length-append v (zeros ps), length-replicate {A = ℕ} (4 - length ps) 0, valued_length ps v h))
     (All-append (λ d. d < base) v (zeros ps) (valued_under ps v r h) (zeros_under (4 - length ps)))
 
-pub word_told : (ps : List Param) (v : List ℕ) → length ps ≤ 4 → All Range ps → Valued (domains_of ps) v → take (length ps) (values_of (word_for v)) ≡ v
+pub word_told : (ps : List Param) (v : List ℕ) → length ps ≤ 4 → AllByRecursion Range ps → Valued (domains_of ps) v → take (length ps) (values_of (word_for v)) ≡ v
 word_told ps v few r h = ap (take (length ps)) (values_told ps v few r h) ∙ take_at v (zeros ps) (length ps) (valued_length ps v h)
 
-pub one_word : (ps : List Param) (v w : List ℕ) → length ps ≤ 4 → All Range ps → Valued (domains_of ps) v → Valued (domains_of ps) w → word_for v ≡ word_for w → v ≡ w
+pub one_word : (ps : List Param) (v w : List ℕ) → length ps ≤ 4 → AllByRecursion Range ps → Valued (domains_of ps) v → Valued (domains_of ps) w → word_for v ≡ word_for w → v ≡ w
 one_word ps v w few r h k e = sym (word_told ps v few r h) ∙ ap (λ n. take (length ps) (values_of n)) e ∙ word_told ps w few r k
 
 same_map : {X Y : Type 0} (f g : X → Y) (xs : List X) → ((i : ℕ) (x : X) → slice_get xs i ≡ Some x → f x ≡ g x) → map f xs ≡ map g xs
@@ -179,7 +179,7 @@ given_values k (r ∷ rs) (p ∷ ps) vs u n e =
     (a.0 ∷ w.0, sym b.2 ∙ ap (λ us. a.0 ∷ us) w.1, (x.0, w.2), (x.1, w.3))
 
 -- what a link gives at the word of a valuation
-module _ (ps ts : List Param) (rs : List Rule) (few : length ps ≤ 4) (ranges : All Range ps) (ruled : length rs ≡ length ts) where
+module _ (ps ts : List Param) (rs : List Rule) (few : length ps ≤ 4) (ranges : AllByRecursion Range ps) (ruled : length rs ≡ length ts) where
   at_word : (v : List ℕ) → Valued (domains_of ps) v → target_at (filled ps) (filled ts) (filled_by no_rule rs) (word_for v)
       ≡ option_map word_of (values_for (rs ++ replicate (4 - length ts) no_rule) (filled ts) (v ++ zeros ps))
   at_word v h =

@@ -1,6 +1,6 @@
 -- A record that is read is the writing of a description.
 use Rattle.std.proofs.Common.{◌≡◌, ℕ, zero, suc, ◌*◌, eqb, List, [], ◌∷◌, ◌++◌, map, length, get_or, drop, replicate, Ok, sym, refl, ap, ◌∙◌, subst, arith}
-use Rattle.std.specs.List.{flat_map, AllByRecursion as All}
+use Rattle.std.specs.List.{flat_map, AllByRecursion}
 use Rattle.std.proofs.lemmas.List.{append_assoc, append-nil, length-map, map-id, drop_all}
 use Rattle.std.proofs.ByRecursion.{All-weaker}
 use Rattle.std.proofs.lemmas.Bool.{eqb-true}
@@ -31,9 +31,9 @@ record Tasked (pss : List (List Param)) (nss : List (List ℕ)) (ts : List Task)
   fronts : flat_map task_bits ts ≡ flat_map params_bits pss
   names : flat_map name_bits ts ≡ flat_map letters_bits nss
   shapes : map shaped ts ≡ map shape pss
-  limits : All TaskLimits ts
+  limits : AllByRecursion TaskLimits ts
 
-tasked : (pss : List (List Param)) (nss : List (List ℕ)) → length pss ≡ length nss → All ParamsLimits pss → All IsName nss → (ts : List Task) × Tasked pss nss ts
+tasked : (pss : List (List Param)) (nss : List (List ℕ)) → length pss ≡ length nss → AllByRecursion ParamsLimits pss → AllByRecursion IsName nss → (ts : List Task) × Tasked pss nss ts
 tasked [] [] long a b = ([], record { long = refl; fronts = refl; names = refl; shapes = refl; limits = tt })
 tasked [] (ns ∷ nss) long a b = absurd (omega arith)
 tasked (ps ∷ pss) [] long a b = absurd (omega arith)
@@ -95,8 +95,8 @@ parted_by q d ts ls = record {
 record Bodied (s : List ℕ) (n : Counts) (at : ℕ) (q : Parts) (end : ℕ) (d : Description) : Type 0 where
   tasks : length d.tasks ≡ n.tasks
   links : length d.links ≡ n.links
-  each_task : All TaskLimits d.tasks
-  each_link : All (LinkLimits d) d.links
+  each_task : AllByRecursion TaskLimits d.tasks
+  each_link : AllByRecursion (LinkLimits d) d.links
   apart : Apart d
   parted : Parted q d
   mid : ℕ

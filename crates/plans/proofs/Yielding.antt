@@ -1,7 +1,7 @@
 -- What an edge of a description gives to valuations, the edge of the plan gives to their words.
 use Rattle.std.proofs.Common.{◌≡◌, ℕ, zero, suc, ◌+◌, ◌<◌, ◌≤◌, List, [], ◌∷◌, map, length, get_or, Some, Option, sym, refl, ap, ◌∙◌, subst, arith}
 use Rattle.std.specs.Option.{option_map}
-use Rattle.std.specs.List.{AllByRecursion as All, slice_get}
+use Rattle.std.specs.List.{AllByRecursion, slice_get}
 use Rattle.std.proofs.ByRecursion.{All-get_or}
 use Rattle.std.proofs.lemmas.List.{length-map, get_or-map}
 use Rattle.plans.specs.declared.param.Param.{Param}
@@ -51,7 +51,7 @@ module _ (d : Description) (lim : Limits d) where
   pub few : (t : ℕ) → t < length d.tasks → length (params d t) ≤ 4
   few t h = (All-get_or TaskLimits d.tasks t no_task_at h lim.each_task).few_params
 
-  pub ranges : (t : ℕ) → t < length d.tasks → All Range (params d t)
+  pub ranges : (t : ℕ) → t < length d.tasks → AllByRecursion Range (params d t)
   ranges t h = (All-get_or TaskLimits d.tasks t no_task_at h lim.each_task).ranges
 
   limits : (l : ℕ) → l < length d.links → LinkLimits d (link_at d l)

@@ -1,6 +1,6 @@
 -- What a packed record describes: tasks with parameters and names, and links with rules; and how it is written.
 use Rattle.std.specs.Prelude.{◌≡◌, ℕ, ◌+◌, ◌-◌, ◌^◌, ◌<◌, ◌≤◌, cond, ◌⊎◌, List, [], ◌++◌, length, replicate, ℤ, pos, negsuc, ◌≤ℤ◌, slice_index_or}
-use Rattle.std.specs.List.{flat_map, AllByRecursion as All}
+use Rattle.std.specs.List.{flat_map, AllByRecursion}
 use Rattle.bits.specs.Bits.{digits}
 use Rattle.plans.specs.declared.param.Param.{Param}
 use Rattle.plans.specs.declared.rule.Rule.{Rule}
@@ -67,11 +67,11 @@ Range p = (p.low ≤ p.high) × (p.high < base)
 
 pub record TaskLimits (t : Task) : Type 0 where
   pub few_params : length t.params ≤ 4
-  pub ranges : All Range t.params
+  pub ranges : AllByRecursion Range t.params
   pub few_words : count t.params ≤ most_words
   pub named : 1 ≤ length t.name
   pub short : length t.name ≤ 15
-  pub letters : All (λ b. (33 ≤ b) × (b ≤ 126)) t.name
+  pub letters : AllByRecursion (λ b. (33 ≤ b) × (b ≤ 126)) t.name
 
 -- a rule, where the from task has so many parameters
 pub record RuleLimits (sources : ℕ) (r : Rule) : Type 0 where
@@ -89,11 +89,11 @@ pub record LinkLimits (d : Description) (l : Link) : Type 0 where
   pub from_known : l.ends.from < length d.tasks
   pub to_known : l.ends.to < length d.tasks
   pub ruled : length l.rules ≡ length (task_at d l.ends.to).params
-  pub rules : All (RuleLimits (length (task_at d l.ends.from).params)) l.rules
+  pub rules : AllByRecursion (RuleLimits (length (task_at d l.ends.from).params)) l.rules
 
 pub record Limits (d : Description) : Type 0 where
   pub some_tasks : 1 ≤ length d.tasks
   pub few_tasks : length d.tasks ≤ 32
   pub few_links : length d.links ≤ 64
-  pub each_task : All TaskLimits d.tasks
-  pub each_link : All (LinkLimits d) d.links
+  pub each_task : AllByRecursion TaskLimits d.tasks
+  pub each_link : AllByRecursion (LinkLimits d) d.links

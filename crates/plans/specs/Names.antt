@@ -1,7 +1,7 @@
 -- The names of a record's tasks.
 use Rattle.std.specs.Prelude.{◌≡◌, ℕ, ◌<◌, ◌≤◌, List, length, take, drop, Option, MatchOption, slice_index_or}
 use Rattle.std.specs.Borrow.{Bor}
-use Rattle.std.specs.List.{AllByRecursion as All}
+use Rattle.std.specs.List.{AllByRecursion}
 use Rattle.plans.specs.declared.shapes.Name.{Name}
 
 abbrev pub no_name : Name
@@ -18,7 +18,7 @@ name_in bytes names t = take (name_at names t).length (drop (name_at names t).at
 pub record IsName (bs : List ℕ) : Type 0 where
   pub some : 1 ≤ length bs
   pub short : length bs ≤ 15
-  pub letters : All (λ b. (33 ≤ b) × (b ≤ 126)) bs
+  pub letters : AllByRecursion (λ b. (33 ≤ b) × (b ≤ 126)) bs
 
 -- r is the name of a task, as that part of the bytes; an unknown task has none
 abbrev pub Named : List ℕ → List Name → ℕ → Option (Bor (List ℕ)) → Type 0

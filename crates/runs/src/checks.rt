@@ -3,7 +3,7 @@ ghost use Rattle.std.specs.Prelude.{◌≡◌, ◌<◌, true, is_ok};
 ghost use Rattle.plans.specs.Plan.{link_count};
 ghost use Rattle.plans.specs.Orders.{from_type, to_type, type_of};
 ghost use Rattle.runs.specs.Order.{event_type, same_type};
-ghost use Rattle.runs.specs.Slots.{rank as rank-of, slot_of, slot_count, next_of, link_met_by, links_met_by, link_free_by, links_free_by, post_by, take_back_by, ready_of};
+ghost use Rattle.runs.specs.Slots.{rank as rank_of, slot_of, slot_count, next_of, link_met_by, links_met_by, link_free_by, links_free_by, post_by, take_back_by, ready_of};
 ghost use Rattle.runs.specs.Limit.{link_bound};
 
 use crate::refusal::Refusal;
@@ -92,7 +92,7 @@ fn links_met<S: Source>(source: &S, table: &Table, event: Event, place: u32) -> 
 // How many events of its task come before an event of a side at a place.
 fn rank(place: u32, side: Side) -> u32
     requires { place < 65536 }
-    ensures { result ≡ rank-of place side }
+    ensures { result ≡ rank_of place side }
 {
     match side {
         Side::Start => 2 * place,

@@ -3,7 +3,7 @@ ghost use Rattle.std.specs.Prelude.{◌≡◌, ◌<◌};
 ghost use Rattle.plans.specs.Plan.{task_count, link_count};
 ghost use Rattle.plans.specs.declared.ends.Side.TheVariants.{Start, Finish};
 ghost use Rattle.runs.specs.Order.{event_type};
-ghost use Rattle.runs.specs.Limit.{limit as limit-of};
+ghost use Rattle.runs.specs.Limit.{limit as limit_of};
 ghost use Rattle.runs.specs.Routes.{Routed};
 
 use crate::checks::bound;
@@ -55,8 +55,8 @@ pub(crate) fn limits_of<S: Source>(
 ) -> Limits
     requires known { task < task_count (S.Source.means source.now).plan }
     requires routed { Routed (S.Source.means source.now).plan (link_count (S.Source.means source.now).plan) routes.now.last routes.now.before routes.now.next }
-    ensures start { result.start ≡ limit-of (S.Source.means source.now).plan table.now.slots (event_type task Start) (link_count (S.Source.means source.now).plan) }
-    ensures finish { result.finish ≡ limit-of (S.Source.means source.now).plan table.now.slots (event_type task Finish) (link_count (S.Source.means source.now).plan) }
+    ensures start { result.start ≡ limit_of (S.Source.means source.now).plan table.now.slots (event_type task Start) (link_count (S.Source.means source.now).plan) }
+    ensures finish { result.finish ≡ limit_of (S.Source.means source.now).plan table.now.slots (event_type task Finish) (link_count (S.Source.means source.now).plan) }
 {
     let mut start: u32 = 65536;
     let mut finish: u32 = 65536;

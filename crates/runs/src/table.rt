@@ -1,6 +1,6 @@
 // The table of a run: one slot for each task.
 ghost use Rattle.std.specs.Prelude.{◌≡◌, ◌≤◌};
-ghost use Rattle.runs.specs.Slots.{fresh, started, finished, undone, row as row_of, slot_event, progress as progress-of};
+ghost use Rattle.runs.specs.Slots.{fresh, started, finished, undone, row as row_of, slot_event, progress as progress_of};
 
 use plans::{Event, Side, Word};
 
@@ -62,7 +62,7 @@ impl Slot {
 
     // 0 waiting, 1 running, 2 done
     pub(crate) fn progress(&self) -> u8
-        ensures value { result ≡ progress-of self.now }
+        ensures value { result ≡ progress_of self.now }
         ensures small { result ≤ 2 }
     {
         if self.done {
