@@ -80,8 +80,8 @@ fn questions(rt: &HostRuntime) -> io::Result<()> {
     tell_memory(rt)
 }
 
-// Plays the verdict of a new run on a plan, and prints what an event took.
-fn play<S: Source + Drop>(rt: &HostRuntime, plan: S) -> io::Result<()> {
+// Plays the verdict of a new run on a plan: how many events it posted, and the time that it took.
+fn play<S: Source + Drop>(rt: &HostRuntime, plan: S) -> io::Result<(u32, u128)> {
     let mut run = Run::open(plan);
     let start = Instant::now(rt)?;
     let count = match run.verdict(8_388_608) {
@@ -89,22 +89,26 @@ fn play<S: Source + Drop>(rt: &HostRuntime, plan: S) -> io::Result<()> {
         Ok(Outcome::DeadEnd(count)) => count,
         Err(_) => 0,
     };
-    let nanos = start.elapsed(rt)?.as_nanos();
+    Ok((count, start.elapsed(rt)?.as_nanos()))
+}
+
+// What an event took on the plan in plan.bin.
+fn verdict(rt: &HostRuntime) -> io::Result<()> {
+    let bytes = fs::read(rt, "plan.bin")?;
+    let (count, nanos) = play(rt, Packed::new(&bytes))?;
+    let each = nanos / u128::from(count.max(1));
+    println!(rt; "{count} events, {each} ns an event")?;
+    tell_memory(rt)
+}
+
+// What an event took on a pipeline of 32 tasks, each at most four words ahead of the next.
+fn pipeline_verdict(rt: &HostRuntime) -> io::Result<()> {
+    let (count, nanos) = play(rt, Pipeline::new(32, 65_536, 4))?;
     let tenths = nanos / u128::from((count / 10).max(1));
     let whole = tenths / 10;
     let tenth = tenths % 10;
     println!(rt; "{count} events, {whole}.{tenth} ns an event")?;
     tell_memory(rt)
-}
-
-fn verdict(rt: &HostRuntime) -> io::Result<()> {
-    let bytes = fs::read(rt, "plan.bin")?;
-    play(rt, Packed::new(&bytes))
-}
-
-// 32 tasks, each at most four words ahead of the next.
-fn pipeline_verdict(rt: &HostRuntime) -> io::Result<()> {
-    play(rt, Pipeline::new(32, 65_536, 4))
 }
 
 fn run(rt: &HostRuntime) -> anyhow::Result<()> {
