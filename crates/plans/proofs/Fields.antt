@@ -10,7 +10,7 @@ use Rattle.plans.specs.declared.fault.Kind.{Kind}
 use Rattle.plans.specs.declared.fault.Kind.TheVariants as kind
 use Rattle.plans.specs.declared.param.Param.{Param}
 use Rattle.plans.specs.Reads.{on_ok, next, unless, give, lifted, number, number_that, Read, times}
-use Rattle.plans.specs.Layout.{no_param, param, task}
+use Rattle.plans.specs.Layout.{no_param, param}
 use Rattle.plans.specs.Words.{base, size, count, hold_bytes, Bytes}
 use Rattle.std.specs.List.{AllByRecursion}
 

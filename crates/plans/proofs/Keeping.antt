@@ -9,7 +9,6 @@ use Rattle.std.proofs.lemmas.Bool.{cases_lt, false≢true}
 use Rattle.plans.specs.declared.param.Param.{Param}
 use Rattle.plans.specs.declared.rule.Rule.{Rule}
 use Rattle.plans.specs.declared.shapes.Params.{Params}
-use Rattle.plans.specs.declared.shapes.Link as shape
 use Rattle.plans.specs.Lists.{and_then, place_in}
 use Rattle.plans.specs.Words.{base, most_words, words, count, Bytes, word_of}
 use Rattle.plans.specs.Targets.{target_at}

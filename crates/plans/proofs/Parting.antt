@@ -5,7 +5,6 @@ use Rattle.std.proofs.lemmas.Bool.{le-leb, lt-ltb, eq-eqb, ne_eqb, and_from, or_
 use Rattle.bits.specs.Bits.{bits, digits}
 use Rattle.plans.specs.declared.fault.Kind.{Kind}
 use Rattle.plans.specs.declared.fault.Kind.TheVariants as kind
-use Rattle.plans.specs.declared.rule.Rule.{Rule}
 use Rattle.plans.specs.declared.ends.Ends.{Ends}
 use Rattle.plans.specs.declared.shapes.Params.{Params}
 use Rattle.plans.specs.Reads.{Read, unless, times, number, number_that}

@@ -1,5 +1,5 @@
 -- The words of four parameters by place.
-use Rattle.std.proofs.Common.{◌≡◌, ℕ, suc, ◌+◌, ◌-◌, ◌*◌, ◌/◌, ◌%◌, ◌^◌, ◌<◌, ◌≤◌, ltb, List, [], ◌∷◌, length, Some, None, sym, refl, ap, ◌∙◌, mod-lt, mod-eq_of_lt, div-add-mod', arith}
+use Rattle.std.proofs.Common.{◌≡◌, ℕ, suc, ◌+◌, ◌*◌, ◌/◌, ◌%◌, ◌^◌, ◌<◌, ◌≤◌, ltb, List, [], ◌∷◌, length, Some, None, sym, refl, ap, ◌∙◌, mod-lt, mod-eq_of_lt, div-add-mod', arith}
 use native.Mathlib.Nat.{div-div-eq-div-mul}
 use Rattle.std.specs.List.{slice_get}
 use Rattle.std.specs.Int.Digits.{AllBelowBase}

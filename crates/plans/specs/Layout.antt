@@ -1,5 +1,5 @@
 -- The layout of a packed record: its fields in their order, each as a read, with the fault that it may have.
-use Rattle.std.specs.Prelude.{ℕ, ◌+◌, ◌-◌, ◌*◌, ◌/◌, ◌%◌, ◌^◌, Bool, false, cond, not, ◌&&◌, ◌||◌, ltb, leb, List, [], ◌++◌, length, replicate, ℤ, pos, ◌-ℤ◌, Ok, Result, ◌==◌, nat_eq, nat_le, nat_lt, slice_index_or}
+use Rattle.std.specs.Prelude.{ℕ, ◌-◌, ◌*◌, ◌/◌, ◌%◌, ◌^◌, Bool, false, cond, not, ◌&&◌, ◌||◌, ltb, leb, List, [], ◌++◌, length, replicate, ℤ, pos, ◌-ℤ◌, Ok, Result, ◌==◌, nat_eq, nat_le, nat_lt, slice_index_or}
 use Rattle.plans.specs.declared.fault.Fault.{Fault}
 use Rattle.plans.specs.declared.fault.Kind.TheVariants as kind
 use Rattle.plans.specs.declared.param.Param.{Param}

@@ -1,5 +1,5 @@
 -- The test `rests` decides what rests on what, and secured lists are closed.
-use Rattle.std.proofs.Common.{◌≡◌, ℕ, Bool, true, false, cond, not, ◌&&◌, eqb, ◌⊎◌, List, ◌∷◌, Some, None, Option, sym, refl, ap, ◌∙◌, subst, ⊎_elim}
+use Rattle.std.proofs.Common.{◌≡◌, ℕ, Bool, true, false, cond, not, ◌&&◌, eqb, List, ◌∷◌, Some, None, Option, sym, refl, ap, ◌∙◌, subst, ⊎_elim}
 use mathlib.Core.Path.{fun_ext}
 use Rattle.std.proofs.lemmas.Bool.{eqb-true, eq-eqb, and_parts, and_from, or_cases, or_left, or_right, both_ways, cases_Bool, not-true, not_from_false}
 use Rattle.std.specs.List.{slice_get}
@@ -18,7 +18,7 @@ use Rattle.runs.specs.Laws.{Supported, Ready}
 use Rattle.runs.proofs.Tests.{no_true, same_bool, side_true, side_eq, type_true, type_eq, event_true, word_true, word_eq, any_at, any_from, among_here, among_there, among_cases, nothing_among, all_among, among_all, kept_from, among_kept}
 use Rattle.plans.proofs.Places.{mapped_some}
 use Rattle.plans.proofs.Walking.{some_eq}
-use Rattle.runs.proofs.Places.{none_some, listed, of_plan}
+use Rattle.runs.proofs.Places.{none_some, listed}
 
 -- what a reply by way of another comes from
 pub then_some : {A B : Type 0} (o : Option A) (f : A → Option B) (b : B) → and_then o f ≡ Some b → (a : A) × (o ≡ Some a) × (f a ≡ Some b)

@@ -11,7 +11,7 @@ use Rattle.plans.specs.Record.{checked, same_side}
 use Rattle.plans.specs.Lists.{and_then, place_in}
 use Rattle.plans.specs.Plan.{Plan, Link, next_word, link_ends, target}
 use Rattle.plans.specs.Events.{between, Rests, own_start, one_earlier, by_link, same_event, among, Secured, none, more, Configuration}
-use Rattle.worked.specs.Orders.{circle, event, everything, WorkedOrders}
+use Rattle.worked.specs.Orders.{event, everything, WorkedOrders}
 
 -- the plan, written out
 abbrev joint : ℕ → ℕ → Link

@@ -1,5 +1,5 @@
 -- The worked runs, computed from the definitions.
-use Rattle.std.proofs.Common.{◌≡◌, refl}
+use Rattle.std.proofs.Common.{refl}
 use Rattle.bits.specs.Bits.{bits}
 use Rattle.plans.specs.Words.{tuples, count}
 use Rattle.plans.specs.Targets.{quotient}

@@ -3,7 +3,7 @@ use Rattle.std.specs.Prelude.{◌≡◌, ℕ, List, [], ◌∷◌}
 use Rattle.plans.specs.declared.ends.Side.TheVariants.{Start, Finish}
 use Rattle.plans.specs.Meaning.{meaning}
 use Rattle.runs.specs.declared.calls.Call.{Call}
-use Rattle.runs.specs.declared.calls.Call.TheVariants.{Post, TakeBack, ReadyList, StateTable, Verdict}
+use Rattle.runs.specs.declared.calls.Call.TheVariants.{Post, StateTable, Verdict}
 use Rattle.runs.specs.declared.refusal.Refusal.TheVariants.{Waits, OverBudget}
 use Rattle.runs.specs.Order.{event}
 use Rattle.runs.specs.Calls.{Reply, accepted, refused, fills, finishes, dead_end, replies}

@@ -2,7 +2,7 @@ use Rattle.std.proofs.Common.{◌≡◌, ◌+◌, ◌*◌, ◌<◌, ◌≤◌, [
 use Rattle.std.proofs.lemmas.Nat.{mul-le}
 use Rattle.std.proofs.lemmas.List.{drop_all}
 use Rattle.plans.specs.Lists.{place_in}
-use Rattle.plans.specs.Words.{size, count, words, turn_of}
+use Rattle.plans.specs.Words.{count, words, turn_of}
 use Rattle.plans.proofs.Turns.{value_of_turn}
 use Rattle.plans.proofs.Mixed.{place_from}
 use Rattle.plans.proofs.Words.{length_words, place_words}

@@ -1,7 +1,7 @@
 use Rattle.std.proofs.Common.{◌≡◌, ℕ, ◌*◌, length, take, sym, refl, ap, subst, arith, length-take-le}
 use Rattle.plans.specs.Plan.{task_count}
 use Rattle.runs.specs.declared.calls.Call.TheVariants.{ReadyList, StateTable}
-use Rattle.runs.specs.Calls.{refused, fills}
+use Rattle.runs.specs.Calls.{fills}
 use Rattle.runs.specs.Shows.{Answers}
 use Rattle.runs.proofs.Looks.{as_call, ready_answers, ready_refused, table_refused, other_room}
 use Rattle.runs.proofs.run.Run.perform.Goals as goal
