@@ -31,11 +31,19 @@ OWN = {
     "is-running": "now_running",
     "is-done": "now_done",
     "By-counts": "JudgedByCounts",
+    "get_d_bits": "get_or_bits",
 }
 # the same, in one file alone
 OWN_IN = {
     "crates/plans/proofs/Passing.antt": {"target_at": "target_at_lem"},
+    "crates/plans/specs/Layout.antt": {"leb": "nat_le", "ltb": "nat_lt"},
+    "crates/runs/specs/Slots.antt": {"leb": "nat_le", "ltb": "nat_lt"},
 }
+for name in ("plans/proofs/Walking", "plans/proofs/Restricting", "plans/proofs/Predecessors", "plans/proofs/Conditions",
+             "runs/proofs/Order", "runs/proofs/ByCounts", "pipeline/proofs/Replies", "pipeline/proofs/Keeping"):
+    OWN_IN["crates/%s.antt" % name] = {"link_at": "link_at_lem"}
+for name in ("Naming", "Assured"):
+    OWN_IN["crates/plans/proofs/%s.antt" % name] = {"name_at": "name_at_lem"}
 COMMENT = re.compile(r"(?:--|//).*$")
 
 

@@ -6,7 +6,7 @@ use Rattle.std.proofs.lemmas.Bool.Decides.{nat_tests}
 use Rattle.plans.specs.Plan.{Plan, Link, KeepsLink, Keeps, words_of, word_at, place_of}
 use Rattle.pipeline.specs.Pipeline.{below, ends_of, shift, further, link_of, pipeline_plan}
 use Rattle.pipeline.proofs.Rows.{nth_each}
-use Rattle.pipeline.proofs.Replies.{from_is, to_is, task_count_is, words_are, word_at_is, place_of_is, link_count_is, link_at}
+use Rattle.pipeline.proofs.Replies.{from_is, to_is, task_count_is, words_are, word_at_is, place_of_is, link_count_is, link_at_lem}
 
 -- a target stands so many words further on, and is a word
 reply_is : (words by i w : ℕ) → slice_get (map (further words by) (below words)) i ≡ Some (Some w) → (w ≡ i + by) × (w < words)
@@ -60,7 +60,7 @@ module _ (tasks words ahead : ℕ) where
 
   -- a link of the plan is the one of its number
   link_is : (l : ℕ) (k : Link) → slice_get plan.links l ≡ Some k → (l < 2 * (tasks - 1)) × (link_of words ahead l ≡ k)
-  link_is l k e = let at = sym (link_at tasks words ahead l) ∙ e in (grind (arith, nat_tests), grind (arith, nat_tests))
+  link_is l k e = let at = sym (link_at_lem tasks words ahead l) ∙ e in (grind (arith, nat_tests), grind (arith, nat_tests))
 
   -- all rules, within the limits of plans
   pub keeps : tasks ≤ 64 → 1 ≤ words → words ≤ 65536 → Keeps plan

@@ -53,12 +53,12 @@ module _ (tasks words ahead : ℕ) where
   link_count_is = sym (length-map-range_with_len (link_of words ahead) 0 (2 * (tasks - 1)))
 
   -- the link of a number
-  pub link_at : (l : ℕ) → slice_get plan.links l ≡ cond (ltb l (2 * (tasks - 1))) (Some (link_of words ahead l)) None
-  link_at l = nth_each (link_of words ahead) (2 * (tasks - 1)) l
+  pub link_at_lem : (l : ℕ) → slice_get plan.links l ≡ cond (ltb l (2 * (tasks - 1))) (Some (link_of words ahead l)) None
+  link_at_lem l = nth_each (link_of words ahead) (2 * (tasks - 1)) l
 
   -- its ends
   pub ends_are : (l : ℕ) → link_ends plan l ≡ cond (ltb l (2 * (tasks - 1))) (Some (ends_of l)) None
-  ends_are l = ap (option_map (λ k. k.ends)) (link_at l) ∙ grind (arith, nat_tests)
+  ends_are l = ap (option_map (λ k. k.ends)) (link_at_lem l) ∙ grind (arith, nat_tests)
 
   -- what a link of the plan gives at a word
   gives_is : (l w : ℕ) → l < 2 * (tasks - 1) → gives plan (link_of words ahead l) w ≡ cond (ltb w words) (further words (shift ahead l) w) None
@@ -72,4 +72,4 @@ module _ (tasks words ahead : ℕ) where
   pub target_is : (l w : ℕ) → target plan l w ≡ cond (ltb l (2 * (tasks - 1)) && ltb w words) (further words (shift ahead l) w) None
   target_is l w =
       let given = gives_is l w in
-      ap (λ o. and_then o (λ k. gives plan k w)) (link_at l) ∙ grind (arith, nat_tests)
+      ap (λ o. and_then o (λ k. gives plan k w)) (link_at_lem l) ∙ grind (arith, nat_tests)

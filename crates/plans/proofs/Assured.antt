@@ -20,7 +20,7 @@ use Rattle.plans.proofs.Filled.{tuples_filled, unused_are_zero}
 use Rattle.plans.proofs.Fields.{bytes_filled, count_filled}
 use Rattle.plans.proofs.Keeping.{word_narrow, checked_ok}
 use Rattle.plans.proofs.Parted.{shaped}
-use Rattle.plans.proofs.Naming.{Narrow, names_held, name_at}
+use Rattle.plans.proofs.Naming.{Narrow, names_held, name_at_lem}
 use Rattle.plans.proofs.Writing.{read_writes}
 
 -- the parameters that a task uses; the others run from 0 to 0
@@ -94,7 +94,7 @@ module _ (bs : List ℕ) where
   names_as_tasks = (names_held bs).0
 
   pub name_formed : Narrow bs → (t : ℕ) → t < length (parts_or (checked bs)).names → IsName (name_in bs (parts_or (checked bs)).names t)
-  name_formed narrow t h = (name_at bs (parts_or (checked bs)).names t ((names_held bs).1 narrow) h).1
+  name_formed narrow t h = (name_at_lem bs (parts_or (checked bs)).names t ((names_held bs).1 narrow) h).1
 
   -- a task uses at most four parameters
   pub used_few : (t : ℕ) → (task_of (parts_or (checked bs)).tasks t).used ≤ 4

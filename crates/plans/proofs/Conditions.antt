@@ -8,7 +8,7 @@ use Rattle.plans.specs.Plan.{Plan, Link, Keeps, KeepsLink, task_count, link_coun
 use Rattle.plans.specs.Ppo.{Next, Upto}
 use Rattle.plans.specs.Orders.{turn, link, other, from_type, to_type, link_of, order_of, Describes}
 use Rattle.plans.proofs.Places.{nth_within, nth_place_in, place_in_found}
-use Rattle.plans.proofs.Walking.{some_eq, none_some, single_eq, word_known, word_at_lem, link_at, link_is, next_from, upto, Alone, Differ, walked}
+use Rattle.plans.proofs.Walking.{some_eq, none_some, single_eq, word_known, word_at_lem, link_at_lem, link_is, next_from, upto, Alone, Differ, walked}
 use Rattle.plans.proofs.Restricting.{valuation_is}
 
 link_turn : (l t : ℕ) (s : Side) → link l ≡ turn t s → ⊥
@@ -82,7 +82,7 @@ module _ (p : Plan) (d : Describes p) where
     here = link_of p l
 
     replies : length here.targets ≡ length (words_of p here.ends.from)
-    replies = d.within.replies l here (link_at p l h)
+    replies = d.within.replies l here (link_at_lem p l h)
 
     from_word : (i : ℕ) → i < length here.targets → word_at p here.ends.from i ≡ Some (get_or (words_of p here.ends.from) i 0)
     from_word i lt = word_at_lem p here.ends.from i (omega (arith, replies))

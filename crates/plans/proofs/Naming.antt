@@ -169,10 +169,10 @@ name_is bs x h =
     let short = leb-true x.length 15 c.0 in
     (inside, record { some = omega (arith, long); short = omega (arith, long); letters = letters_are (take x.length (drop x.at bs)) c.1 })
 
-pub name_at : (bs : List ℕ) (xs : List Name) (t : ℕ) → good_names bs xs ≡ true → t < length xs → ((get_or xs t no_name).at + (get_or xs t no_name).length ≤ length bs) × IsName (name_in bs xs t)
-name_at bs [] t h l = absurd (omega arith)
-name_at bs (x ∷ xs) zero h l = name_is bs x (and_parts (good_name bs x) (good_names bs xs) h).0
-name_at bs (x ∷ xs) (suc t) h l = name_at bs xs t (and_parts (good_name bs x) (good_names bs xs) h).1 (omega arith)
+pub name_at_lem : (bs : List ℕ) (xs : List Name) (t : ℕ) → good_names bs xs ≡ true → t < length xs → ((get_or xs t no_name).at + (get_or xs t no_name).length ≤ length bs) × IsName (name_in bs xs t)
+name_at_lem bs [] t h l = absurd (omega arith)
+name_at_lem bs (x ∷ xs) zero h l = name_is bs x (and_parts (good_name bs x) (good_names bs xs) h).0
+name_at_lem bs (x ∷ xs) (suc t) h l = name_at_lem bs xs t (and_parts (good_name bs x) (good_names bs xs) h).1 (omega arith)
 
 -- good names lie within the bytes
 pub inside_good : (bs : List ℕ) (xs : List Name) → good_names bs xs ≡ true → inside_all (length bs) xs ≡ true
@@ -193,5 +193,5 @@ module _ (r : Record) (t : ℕ) (h : t < r.tasks.count) where
   pub name_known : (bs : List ℕ) → good_names bs (shown r).names ≡ true
       → ((get_or r.names t no_name).at + (get_or r.names t no_name).length ≤ length bs) × IsName (name_in bs (shown r).names t)
   name_known bs good =
-      let known = name_at bs (shown r).names t good (omega (arith, names_long)) in
+      let known = name_at_lem bs (shown r).names t good (omega (arith, names_long)) in
       (subst (λ x. x.at + x.length ≤ length bs) (sym name_here) known.0, known.1)

@@ -10,7 +10,7 @@ use Rattle.plans.specs.Events.{OfPlan, between, Rests, own_start, one_earlier, b
 use Rattle.plans.specs.Ppo.{Precedes}
 use Rattle.plans.specs.Orders.{Edge, turn, link, from_type, to_type, Has, leaves, enters, link_of, Given, order_of, type_of}
 use Rattle.plans.proofs.Places.{nth_within, nth_place_in, place_in_found, mapped_some}
-use Rattle.plans.proofs.Walking.{some_eq, none_some, single_eq, word_known, link_at}
+use Rattle.plans.proofs.Walking.{some_eq, none_some, single_eq, word_known, link_at_lem}
 
 then_some : {A B : Type 0} (o : Option A) (f : A → Option B) (y : B) → and_then o f ≡ Some y → (x : A) × (o ≡ Some x) × (f x ≡ Some y)
 then_some None f y e = absurd (none_some y e)
@@ -51,7 +51,7 @@ module _ (p : Plan) (k : Keeps p) where
   precede e d of (by_link l ends reply) =
       let (m, is, _) = mapped_some (λ x. x.ends) (slice_get p.links l) (between d e) ends in
       let h = nth_within p.links l m is in
-      let at = link_at p l h in
+      let at = link_at_lem p l h in
       let joins = some_eq (link_of p l).ends (between d e) (sym (ap (option_map (λ x. x.ends)) at) ∙ ends) in
       let (i, place, got) = then_some (place_of p (link_of p l).ends.from d.word) (λ i. option_flatten (slice_get (link_of p l).targets i)) e.word (sym (ap (λ o. and_then o (λ x. gives p x d.word)) at) ∙ reply) in (
         record { edge = link l; has = h; from = ap from_type joins; to = ap to_type joins },
@@ -67,7 +67,7 @@ module _ (p : Plan) (k : Keeps p) where
       one_earlier (sym (ap (λ y. y.side) g)) (sym (ap (λ y. y.side) f)) (sym (ap (λ y. y.task) g) ∙ ap (λ y. y.task) f)
       (subst (λ u. next_word p u d.word ≡ Some e.word) (ap (λ y. y.task) f) next)
   rest_by e d (link l) v w h f g isv isw (i, here, there) =
-      let at = link_at p l h in
+      let at = link_at_lem p l h in
       let place = place_is (link_of p l).ends.from i d.word (here ∙ ap Some (sym isv)) in
       by_link l
       (ap (option_map (λ x. x.ends)) at ∙ ap Some (λ j. record { from = (f j).task; from_side = (f j).side; to = (g j).task; to_side = (g j).side }))

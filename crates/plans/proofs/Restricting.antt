@@ -9,7 +9,7 @@ use Rattle.plans.specs.Plan.{Plan, Keeps, KeepsLink, task_count, link_count, wor
 use Rattle.plans.specs.Ppo.{Valuation, Next, Steps, Upto}
 use Rattle.plans.specs.Orders.{Edge, turn, link, other, Has, leaves, enters, link_of, Word, Given, order_of, Describes}
 use Rattle.plans.proofs.Places.{nth_within, nth_place_in}
-use Rattle.plans.proofs.Walking.{some_eq, single_eq, start_end, word_known, word_at_lem, link_at, next_from, upto, Alone, next_is, walked}
+use Rattle.plans.proofs.Walking.{some_eq, single_eq, start_end, word_known, word_at_lem, link_at_lem, next_from, upto, Alone, next_is, walked}
 
 some_from : (o : Option ℕ) → is_some o ≡ true → (x : ℕ) × (o ≡ Some x)
 some_from None h = absurd (false≢true h)
@@ -41,7 +41,7 @@ module _ (p : Plan) (k : Keeps p) where
   first t = get_or (words_of p t) 0 0
 
   rules : (l : ℕ) → l < link_count p → KeepsLink p (link_of p l)
-  rules l h = k.links_keep l (link_of p l) (link_at p l h)
+  rules l h = k.links_keep l (link_of p l) (link_at_lem p l h)
 
   alone : Alone p
   alone l h = (rules l h).apart
@@ -55,7 +55,7 @@ module _ (p : Plan) (k : Keeps p) where
   once (turn t s) (link m) h g a b = absurd (alone m g (sym (ap (λ x. x.task) a) ∙ ap (λ x. x.task) b))
   once (link l) (turn u r) h g a b = absurd (alone l h (ap (λ x. x.task) a ∙ sym (ap (λ x. x.task) b)))
   once (link l) (link m) h g a b =
-      ap link (k.ends_differ l m (link_of p l) (link_of p m) (link_at p l h) (link_at p m g)
+      ap link (k.ends_differ l m (link_of p l) (link_of p m) (link_at_lem p l h) (link_at_lem p m g)
       (λ i. record { from = (a i).task; from_side = (a i).side; to = (b i).task; to_side = (b i).side }))
 
   -- where a target lands

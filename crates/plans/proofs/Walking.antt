@@ -34,13 +34,13 @@ pub word_at_lem : (p : Plan) (t i : ℕ) → i < length (words_of p t) → word_
 word_at_lem p t i h = slice_get-get_or (words_of p t) i 0 h
 
 -- a link by its number
-pub link_at : (p : Plan) (l : ℕ) → l < link_count p → slice_get p.links l ≡ Some (link_of p l)
-link_at p l h = slice_get-get_or p.links l no_reply h
+pub link_at_lem : (p : Plan) (l : ℕ) → l < link_count p → slice_get p.links l ≡ Some (link_of p l)
+link_at_lem p l h = slice_get-get_or p.links l no_reply h
 
 pub link_is : (p : Plan) (l : ℕ) (k : Link) → slice_get p.links l ≡ Some k → (l < link_count p) × (link_of p l ≡ k)
 link_is p l k e =
     let h = nth_within p.links l k e in
-    (h, some_eq (link_of p l) k (sym (link_at p l h) ∙ e))
+    (h, some_eq (link_of p l) k (sym (link_at_lem p l h) ∙ e))
 
 -- from a word to the next one
 pub next_from : (p : Plan) (t i v w : ℕ) → word_at p t i ≡ Some v → word_at p t (i + 1) ≡ Some w → Next (order_of p) t (v ∷ []) (w ∷ [])

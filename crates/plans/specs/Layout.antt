@@ -1,5 +1,5 @@
 -- The layout of a packed record: its fields in their order, each as a read, with the fault that it may have.
-use Rattle.std.specs.Prelude.{ℕ, ◌-◌, ◌*◌, ◌/◌, ◌%◌, ◌^◌, Bool, false, cond, not, ◌&&◌, ◌||◌, ltb, leb, List, [], ◌++◌, length, replicate, ℤ, pos, ◌-ℤ◌, Ok, Result, ◌==◌, nat_eq, nat_le, nat_lt, slice_index_or}
+use Rattle.std.specs.Prelude.{ℕ, ◌-◌, ◌*◌, ◌/◌, ◌%◌, ◌^◌, Bool, false, cond, not, ◌&&◌, ◌||◌, nat_lt, nat_le, List, [], ◌++◌, length, replicate, ℤ, pos, ◌-ℤ◌, Ok, Result, ◌==◌, nat_eq, slice_index_or}
 use Rattle.plans.specs.declared.fault.Fault.{Fault}
 use Rattle.plans.specs.declared.fault.Kind.TheVariants as kind
 use Rattle.plans.specs.declared.param.Param.{Param}
@@ -20,12 +20,12 @@ abbrev pub counts : List ℕ → Read Counts
 counts bs =
     next (number_that bs 4 (λ n. nat_eq n 1) kind.Form) (λ _.
     next (number_that bs 6 (λ n. nat_le 1 n && nat_le n 32) kind.Counts) (λ tasks.
-    next (number_that bs 7 (λ n. leb n 64) kind.Counts) (λ links. give (record { tasks = tasks; links = links }))))
+    next (number_that bs 7 (λ n. nat_le n 64) kind.Counts) (λ links. give (record { tasks = tasks; links = links }))))
 
 -- a parameter: a low above the high is the high field's fault
 abbrev pub param : List ℕ → Read Param
 param bs =
-    next (number bs 8) (λ low. next (number_that bs 8 (λ high. leb low high) kind.Params) (λ high.
+    next (number bs 8) (λ low. next (number_that bs 8 (λ high. nat_le low high) kind.Params) (λ high.
     next (number bs 1) (λ down. give (record { low = low; high = high; down = (down == 1) }))))
 
 -- four parts: those that are lacking are all the same
@@ -42,7 +42,7 @@ filled ps = filled_by no_param ps
 -- a task's parameters; its words are counted when all are read, and too many are a fault of the task
 abbrev pub task : List ℕ → Read Params
 task bs at =
-    next (number_that bs 3 (λ n. leb n 4) kind.Params) (λ n. next (times n (param bs)) (λ ps.
+    next (number_that bs 3 (λ n. nat_le n 4) kind.Params) (λ n. next (times n (param bs)) (λ ps.
     next (unless (nat_le (count (filled ps)) most_words) kind.Words at) (λ _. give (record { each = filled ps; used = n })))) at
 
 -- a number of some bits in two's complement
@@ -53,7 +53,7 @@ twos width n = cond (nat_lt n (2 ^ (width - 1))) (pos n) (pos n -ℤ pos (2 ^ wi
 abbrev pub rule : List ℕ → ℕ → Read Rule
 rule bs sources =
     next (number_that bs 3 (λ pick. nat_lt pick sources || pick == 4) kind.Rule) (λ pick. next (number bs 9) (λ add.
-    next (number_that bs 4 (λ divisor. ltb 0 divisor) kind.Rule) (λ divisor.
+    next (number_that bs 4 (λ divisor. nat_lt 0 divisor) kind.Rule) (λ divisor.
     give (record { pick = pick; add = twos 9 add; divisor = divisor }))))
 
 -- the rule for a parameter that the to task lacks gives 0

@@ -23,7 +23,7 @@ use Rattle.runs.proofs.Tests.{no_true, same_bool, type_true, type_eq, event_true
 use Rattle.plans.proofs.Places.{nth_within}
 use Rattle.plans.proofs.Walking.{some_eq}
 use Rattle.runs.proofs.Places.{is_there, below_nth, place_word, word_place, listed}
-use Rattle.runs.proofs.Order.{then_some, flat_some, link_at, rests_true, rests_from, supported, supports}
+use Rattle.runs.proofs.Order.{then_some, flat_some, link_at_lem, rests_true, rests_from, supported, supports}
 use Rattle.runs.proofs.Stands.{conf_closed, conf_of_plan, post_clear, take_back_clear, take_back_known}
 use Rattle.runs.proofs.Counts.{held_told, next_one, bit_small, rank_side, rank_place}
 
@@ -168,7 +168,7 @@ module _ (p : Plan) (kp : Keeps p) (counts : ℕ → ℕ) (fits : Fits p counts)
       subst (λ (x : Event). held p counts x ≡ true) (λ z. record { task = c z; side = sym b z; word = d.word })
       (told t r.0 d.word Finish (subst (λ (x : ℕ). word_at p x r.0 ≡ Some d.word) (sym c) v) ∙ lt-ltb _ _ z)
   support_from t i w s h n m d (by_link l a b) =
-      let r = link_at p l d (event t s w) a b in
+      let r = link_at_lem p l d (event t s w) a b in
       let k = r.0 in
       let met = given _ _ (all_nth _ p.links l k m r.1) (type_eq _ _ r.3) in
       let pl = subst (λ (x : EventType). place_of p x.task w ≡ Some i) (sym r.3) (word_place p kp t i w h) in
@@ -214,7 +214,7 @@ module _ (p : Plan) (kp : Keeps p) (counts : ℕ → ℕ) (fits : Fits p counts)
       let z = ltb-true _ _ (sym (told d.task (r.0 + 1) d.word d.side wd) ∙ st) in
       omega (arith, ap bit a, ap bit b, ap (λ (x : ℕ). counts x) c)
   free_from t i w s h n m d st (by_link l a b) =
-      let r = link_at p l (event t s w) d a b in
+      let r = link_at_lem p l (event t s w) d a b in
       let k = r.0 in
       let o = conf_of_plan p (held p counts) conf d st in
       let pl = subst (λ (x : EventType). place_of p x.task d.word ≡ Some o.0) (sym r.3) o.1 in

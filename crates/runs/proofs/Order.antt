@@ -31,9 +31,9 @@ flat_some None y h = none_some y h
 flat_some (Some o) y h = ap Some h
 
 -- a link's reply, by the link
-pub link_at : (p : Plan) (l : ℕ) (d e : Event) → link_ends p l ≡ Some (between d e) → target p l d.word ≡ Some e.word
+pub link_at_lem : (p : Plan) (l : ℕ) (d e : Event) → link_ends p l ≡ Some (between d e) → target p l d.word ≡ Some e.word
     → (k : Link) × (slice_get p.links l ≡ Some k) × (from_type k.ends ≡ type_of d) × (to_type k.ends ≡ type_of e) × (gives p k d.word ≡ Some e.word)
-link_at p l d e q h =
+link_at_lem p l d e q h =
     let (k, is, ends) = mapped_some (λ x. x.ends) (slice_get p.links l) (between d e) q in
     let (j, at, reply) = then_some (slice_get p.links l) (λ x. gives p x d.word) e.word h in
     let z : j ≡ k = some_eq j k (sym at ∙ is) in
@@ -75,7 +75,7 @@ rests_from p e d (own_start a b c f) =
 rests_from p e d (one_earlier a b c f) =
     or_left _ _ (or_right _ _ (and_from _ _ (and_from _ _ (and_from _ _ (side_eq _ _ a) (side_eq _ _ b)) (eq-eqb _ _ c)) (word_eq _ _ f)))
 rests_from p e d (by_link l a b) =
-    let r = link_at p l d e a b in
+    let r = link_at_lem p l d e a b in
     or_right _ _ (any_at (links_to p e d) p.links l r.0 r.1
     (and_from _ _ (and_from _ _ (type_eq _ _ r.2) (type_eq _ _ r.3)) (word_eq _ _ r.4)))
 
@@ -87,7 +87,7 @@ rests_of_plan p e d o (own_start a b c f) = (o.0, subst₂' o.1)
 rests_of_plan p e d o (one_earlier a b c f) =
     let r = then_some (place_of p d.task d.word) _ _ f in (r.0, r.1)
 rests_of_plan p e d o (by_link l a b) =
-    let r = link_at p l d e a b in
+    let r = link_at_lem p l d e a b in
     let s = then_some (place_of p r.0.ends.from d.word) _ _ r.4 in
     (s.0, subst (λ (t : EventType). place_of p t.task d.word ≡ Some s.0) r.2 s.1)
 

@@ -1,5 +1,5 @@
 -- A slot for each task, a word and two flags: how many events of the task it tells to stand, and what each call does with the slots.
-use Rattle.std.specs.Prelude.{◌≡◌, ℕ, zero, suc, ◌+◌, ◌*◌, ◌/◌, ◌%◌, ◌<◌, ◌≤◌, Bool, true, false, cond, ◌&&◌, ltb, List, [], ◌∷◌, ◌++◌, length, is_ok, Some, None, Ok, Err, Option, Result, ◌==◌, nat_le, nat_lt, slice_index_or, slice_set}
+use Rattle.std.specs.Prelude.{◌≡◌, ℕ, zero, suc, ◌+◌, ◌*◌, ◌/◌, ◌%◌, ◌<◌, ◌≤◌, Bool, true, false, cond, ◌&&◌, nat_lt, List, [], ◌∷◌, ◌++◌, length, is_ok, Some, None, Ok, Err, Option, Result, ◌==◌, nat_le, slice_index_or, slice_set}
 use Rattle.std.specs.Option.{unwrap_or}
 use Rattle.plans.specs.declared.event.Event.{Event}
 use Rattle.plans.specs.Ppo.{EventType}
@@ -28,7 +28,7 @@ maybe (Some a) b f = f a
 
 -- The events that stand where of each task so many stand: those at the front of its chain, start and finish of its words in order.
 unfoldable pub held : Plan → (ℕ → ℕ) → Event → Bool
-held p counts e = maybe (place_of p e.task e.word) false (λ i. ltb (rank i e.side) (counts e.task))
+held p counts e = maybe (place_of p e.task e.word) false (λ i. nat_lt (rank i e.side) (counts e.task))
 
 -- the slot of a task that waits to start a word
 abbrev pub fresh : ℕ → Slot
@@ -86,7 +86,7 @@ link_met_by p slots a i l =
     maybe (link_ends p l) true
     (λ e. cond (same_type (to_type e) a)
     (maybe (next_of p e.from e.from_side (slot_of slots e.from)) true
-    (λ v. maybe (target p l v) true (λ w. maybe (place_of p a.task w) true (λ b. ltb i b))))
+    (λ v. maybe (target p l v) true (λ w. maybe (place_of p a.task w) true (λ b. nat_lt i b))))
     true)
 
 -- so do the links below n
