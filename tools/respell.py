@@ -1,7 +1,9 @@
 #!/usr/bin/env python3
 """Spells the names of this repository's definitions and lemmas as the library spells its own.
 
-usage: python3 tools/respell.py [--dry]      at the top of a checkout, once, after the toolchain's port.py
+usage: python3 tools/respell.py [--dry] [--table]      at the top of a checkout, once, after the toolchain's port.py
+
+--dry writes nothing; --table prints each name with its new spelling.
 
 Words are in snake case, facts and types in upper camel case. Renamed are names that files of specs/ and proofs/ bind: definitions,
 lemmas, fields, local names. Names that come from src/, names of the library, names that the check makes (goals, steps), strings, inputs
@@ -67,7 +69,7 @@ def is_answer(path):
 
 
 def split(text):
-    """Code and strings or line comments of a .rt file, alternately."""
+    """Code and strings of a .rt file, alternately."""
     return re.split(r"(\"(?:\\.|[^\"\\])*\")", text)
 
 

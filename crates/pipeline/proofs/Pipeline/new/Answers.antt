@@ -7,4 +7,4 @@ invariant_of-result c =
     let few : c.min.result ≤ 64 = omega arith in
     let some : 1 ≤ c.clamp.result = omega arith in
     let limit : c.clamp.result ≤ 65536 = omega arith in
-    record { few = few; some = some; limit = limit; keeps = ∣ keeps c.min.result c.clamp.result c.args.ahead few some limit ∣₁ }
+    record { few = few; some = some; limit = limit; keeps = ∣ keeps c.min.result c.clamp.result _ few some limit ∣₁ }
