@@ -3,80 +3,103 @@
 #![tactic(auto)]
 
 use pipeline::Pipeline;
-use plans::{Packed, Source};
+use plans::{Packed, Source, Word};
 use runs::{Outcome, Run};
 use std::time::Instant;
-use std::{env, fs, io};
+use std::{env, fmt, fs, io};
+
+// More events than any plan has.
+const BUDGET: u32 = 8_388_608;
 
 // Each question is asked so often.
 const TURNS: u32 = 10_000_000;
 
-// A question by its number; what it answers, as a number.
-fn ask(plan: &Packed, question: u32, turn: u32) -> u32 {
-    let task = (turn >> 16) as usize % 32;
-    let link = (turn >> 16) as usize % 64;
-    let place = turn & 0xFFFF;
-    let word = ((turn & 0xF) << 24) | ((turn & 0xF0) << 12) | (turn & 0xF00) | ((turn >> 12) & 0xF);
-    match question {
-        0 => (plan.task_count() & 0xFF) as u32,
-        1 => plan.word_count(task).unwrap_or(0),
-        2 => plan.word_at(task, place).unwrap_or(0),
-        3 => plan.place_of(task, word).unwrap_or(0),
-        4 => plan.next_word(task, word).unwrap_or(0),
-        5 => (plan.link_count() & 0xFF) as u32,
-        6 => match plan.ends(link) {
-            Some(ends) => (ends.to & 0xFF) as u32,
-            None => 0,
-        },
-        _ => plan.target(link, word).unwrap_or(0),
+// The task that a turn asks about.
+fn task_in(turn: u32) -> usize {
+    (turn >> 16) as usize % 32
+}
+
+// The link that a turn asks about.
+fn link_in(turn: u32) -> usize {
+    (turn >> 16) as usize % 64
+}
+
+// The place that a turn asks about.
+fn place_in(turn: u32) -> u32 {
+    turn & 0xFFFF
+}
+
+// The word that a turn asks about.
+fn word_in(turn: u32) -> Word {
+    ((turn & 0xF) << 24) | ((turn & 0xF0) << 12) | (turn & 0xF00) | ((turn >> 12) & 0xF)
+}
+
+// The low bits of a count or a task's number.
+fn low_byte(number: usize) -> u32 {
+    (number & 0xFF) as u32
+}
+
+// A number of tenths, as `12.3`.
+#[derive(Clone, Copy)]
+struct Tenths(u128);
+
+impl fmt::Display for Tenths {
+    fn fmt<W: fmt::Write>(&self, f: &mut fmt::Formatter<W>) -> fmt::Result {
+        let whole = self.0 / 10;
+        let tenth = self.0 % 10;
+        write!(f, "{whole}.{tenth}")
     }
 }
 
-// The name of a question.
-fn name(question: u32) -> &'static str {
-    match question {
-        0 => "task count",
-        1 => "word count",
-        2 => "word at a place",
-        3 => "place of a word",
-        4 => "word after a word",
-        5 => "link count",
-        6 => "ends of a link",
-        _ => "target at a word",
-    }
-}
-
-// Asks one question over and over, and prints what one took.
-fn time(rt: &HostRuntime, plan: &Packed, question: u32) -> io::Result<()> {
+// Asks one question over and over, each turn's answer as a number, and prints what one took.
+fn time<F: Fn(u32) -> u32>(rt: &HostRuntime, name: &str, ask: F) -> io::Result<()>
+    requires { F.IsAlwaysCallable ask }
+{
     let start = Instant::now(rt)?;
-    let mut sum = 0u32;
-    for turn in 0..TURNS {
-        sum = sum.wrapping_add(ask(plan, question, turn));
-    }
-    let nanos = start.elapsed(rt)?.as_nanos();
-    let name = name(question);
-    let whole = nanos / 10_000_000;
-    let tenth = nanos / 1_000_000 % 10;
-    println!(rt; "{name}: {whole}.{tenth} ns (sum {sum})")
+    let sum = (0..TURNS).fold(0u32, |sum, turn| sum.wrapping_add(ask(turn)));
+    let each = Tenths(start.elapsed(rt)?.as_nanos() / u128::from(TURNS / 10));
+    println!(rt; "{name}: {each} ns (sum {sum})")
 }
 
 // The most memory that the program has had, as the system tells it.
 fn tell_memory(rt: &HostRuntime) -> io::Result<()> {
     let status = fs::read_to_string(rt, "/proc/self/status")?;
-    for line in status.as_str().lines() {
-        if line.starts_with("VmHWM") {
-            println!(rt; "{line}")?;
-        }
+    for line in status
+        .as_str()
+        .lines()
+        .filter(|line| line.starts_with("VmHWM"))
+    {
+        println!(rt; "{line}")?;
     }
     Ok(())
 }
 
+// What each question took. The two counts are the same at every turn, so the compiler may ask them once.
 fn questions(rt: &HostRuntime) -> io::Result<()> {
+    // not planfile's `plan_bytes`: without the file there is nothing to time
     let bytes = fs::read(rt, "plan.bin")?;
     let plan = Packed::new(&bytes);
-    for question in 0..8u32 {
-        time(rt, &plan, question)?;
-    }
+    time(rt, "task count", |_| low_byte(plan.task_count()))?;
+    time(rt, "word count", |turn| {
+        plan.word_count(task_in(turn)).unwrap_or(0)
+    })?;
+    time(rt, "word at a place", |turn| {
+        plan.word_at(task_in(turn), place_in(turn)).unwrap_or(0)
+    })?;
+    time(rt, "place of a word", |turn| {
+        plan.place_of(task_in(turn), word_in(turn)).unwrap_or(0)
+    })?;
+    time(rt, "word after a word", |turn| {
+        plan.next_word(task_in(turn), word_in(turn)).unwrap_or(0)
+    })?;
+    time(rt, "link count", |_| low_byte(plan.link_count()))?;
+    time(rt, "ends of a link", |turn| {
+        plan.ends(link_in(turn))
+            .map_or(0, |ends| low_byte(ends.to.task))
+    })?;
+    time(rt, "target at a word", |turn| {
+        plan.target(link_in(turn), word_in(turn)).unwrap_or(0)
+    })?;
     tell_memory(rt)
 }
 
@@ -84,9 +107,8 @@ fn questions(rt: &HostRuntime) -> io::Result<()> {
 fn play<S: Source + Drop>(rt: &HostRuntime, plan: S) -> io::Result<(u32, u128)> {
     let mut run = Run::open(plan);
     let start = Instant::now(rt)?;
-    let count = match run.verdict(8_388_608) {
-        Ok(Outcome::Finishes(count)) => count,
-        Ok(Outcome::DeadEnd(count)) => count,
+    let count = match run.verdict(BUDGET) {
+        Ok(Outcome::Finishes(count) | Outcome::DeadEnd(count)) => count,
         Err(_) => 0,
     };
     Ok((count, start.elapsed(rt)?.as_nanos()))
@@ -104,26 +126,20 @@ fn verdict(rt: &HostRuntime) -> io::Result<()> {
 // What an event took on a pipeline of 32 tasks, each at most four words ahead of the next.
 fn pipeline_verdict(rt: &HostRuntime) -> io::Result<()> {
     let (count, nanos) = play(rt, Pipeline::new(32, 65_536, 4))?;
-    let tenths = nanos / u128::from((count / 10).max(1));
-    let whole = tenths / 10;
-    let tenth = tenths % 10;
-    println!(rt; "{count} events, {whole}.{tenth} ns an event")?;
+    let each = Tenths(nanos / u128::from((count / 10).max(1)));
+    println!(rt; "{count} events, {each} ns an event")?;
     tell_memory(rt)
 }
 
-fn run(rt: &HostRuntime) -> anyhow::Result<()> {
-    for word in env::args(rt)?.skip(1) {
-        match word.as_str() {
-            "questions" => return Ok(questions(rt)?),
-            "verdict" => return Ok(verdict(rt)?),
-            "pipeline" => return Ok(pipeline_verdict(rt)?),
-            _ => break,
+fn main(rt: HostRuntime) -> anyhow::Result<()> {
+    let word = env::args(&rt)?.nth(1);
+    match word.as_ref().map(|word| word.as_str()) {
+        Some("questions") => questions(&rt)?,
+        Some("verdict") => verdict(&rt)?,
+        Some("pipeline") => pipeline_verdict(&rt)?,
+        _ => {
+            println!(rt; "usage: bench questions, or bench verdict, in a folder with a plan.bin")?
         }
     }
-    println!(rt; "usage: bench questions, or bench verdict, in a folder with a plan.bin")?;
     Ok(())
-}
-
-fn main(rt: HostRuntime) -> anyhow::Result<()> {
-    run(&rt)
 }

@@ -1,5 +1,5 @@
 -- Laws of the bits of a number in a field of some width.
-use Rattle.std.proofs.Common.{◌≡◌, ℕ, zero, suc, ◌+◌, ◌*◌, ◌/◌, ◌%◌, ◌^◌, ◌<◌, List, [], ◌∷◌, ◌++◌, length, get_or, take, drop, replicate, sym, refl, ap, ◌∙◌, arith}
+use Rattle.std.proofs.Common.{◌≡◌, ℕ, zero, suc, ◌+◌, ◌*◌, ◌/◌, ◌%◌, ◌^◌, ◌<◌, List, [], ◌∷◌, ◌++◌, length, get_or, take, drop, replicate, sym, refl, ap, ◌∙◌, add-one, arith}
 use Rattle.std.proofs.lemmas.List.{length_push, length-take-le, take_all, take_at, drop_at, take_more, replicate_more, nil_from_length}
 use Rattle.std.proofs.ByRecursion.{All-take, All-get_or}
 use Rattle.std.proofs.lemmas.Int.Digits.{number_push}
@@ -25,7 +25,7 @@ digits_spelled (suc width) ds long low =
     let front = take width ds in
     let last = get_or ds width 0 in
     let whole : front ++ last ∷ [] ≡ ds = sym (take_more ds width 0 (omega arith)) ∙ take_all (width + 1) ds (omega arith) in
-    let sum : spelled ds ≡ spelled front * 2 + last = ap (number_from_digits 2) (sym whole) ∙ number_push 2 front last in
+    let sum : spelled ds ≡ spelled front * 2 + last = ap spelled (sym whole) ∙ number_push 2 front last in
     let bit : last < 2 = All-get_or (λ d. d < 2) ds width 0 (omega arith) low in
     let half : spelled ds / 2 ≡ spelled front = omega arith in
     let rest : spelled ds % 2 ≡ last = omega arith in
@@ -35,9 +35,7 @@ digits_spelled (suc width) ds long low =
 pub digits_zero : (width : ℕ) → digits width 0 ≡ replicate width 0
 unfolding digits
 digits_zero zero = refl
-digits_zero (suc width) =
-    let one : width + 1 ≡ suc width = omega arith in
-    ap (λ ds. ds ++ 0 ∷ []) (digits_zero width) ∙ replicate_more width 0 ∙ ap (λ n. replicate n 0) one
+digits_zero (suc width) = ap (λ ds. ds ++ 0 ∷ []) (digits_zero width) ∙ simp add-one at (replicate_more {X = ℕ} width 0)
 
 -- no two numbers begin with the same bits in a field of one width
 pub digits_once : (width m n : ℕ) (r s : List ℕ) → m < 2 ^ width → n < 2 ^ width → digits width m ++ r ≡ digits width n ++ s → (m ≡ n) × (r ≡ s)

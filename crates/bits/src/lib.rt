@@ -13,17 +13,21 @@ pub struct Fault {
 }
 
 // The bit of `bytes` at `i`.
+#[tactic(auto, using(crate::proofs::Bits::get_or_bits))]
 fn bit_at(bytes: &[u8], i: u128) -> u8
     requires { i < 8 * length bytes.now }
     ensures value { result ≡ slice_index (bits bytes.now) i }
     ensures bound { result < 2 }
 {
-    (bytes[(i / 8) as usize] >> (7 - i % 8)) & 1
+    (bytes[(i / 8) as usize] >> (7 - i % 8)) % 2
 }
 
 // The number that `width` bits spell from the bit `at` on.
+// A loop: what a `fold` is given would have to state the bound of the number so far, and its proof is by hand.
+#[tactic(auto, using(crate::proofs::Bits::spelled_more, std::proofs::lemmas::Grind::pow_more))]
 fn number_at(bytes: &[u8], at: u128, width: u32) -> u32
-    requires { (at + width ≤ 8 * length bytes.now) × (width ≤ 32) }
+    requires within { at + width ≤ 8 * length bytes.now }
+    requires narrow { width ≤ 32 }
     ensures value { result ≡ spelled (field bytes.now at width) }
     ensures bound { result < 2 ^ width }
 {
@@ -55,11 +59,11 @@ impl<'a> Reader<'a> {
     pub fn place(&self) -> u128
         ensures { result ≡ self.now.at }
     {
-        let next = self.at;
-        next
+        self.at
     }
 
     // The number in the next field, which has `width` bits and never more than 32. A refusal leaves the reader as it was.
+    #[tactic(auto, using(crate::proofs::Bits::length_bits, std::proofs::lemmas::Bool::Decides::nat_tests))]
     pub fn read(&mut self, width: u32) -> Result<u32, Fault>
         ensures value { result ≡ field_at self.old.bytes.now self.old.at (min width 32) }
         ensures bound { IfOk result (λ v. v < 2 ^ min width 32) }

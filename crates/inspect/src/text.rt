@@ -1,5 +1,5 @@
-// What a record's parts look like in print.
-use plans::{Param, Rule, Side};
+// What a record's parts look like in print. Types of their own, since `Param` and `Rule` are another crate's.
+use plans::{Param, Rule};
 use std::fmt;
 
 // A range, as `1 to 3` or `3 down to 1`.
@@ -8,9 +8,8 @@ pub struct Range(pub Param);
 
 impl fmt::Display for Range {
     fn fmt<W: fmt::Write>(&self, f: &mut fmt::Formatter<W>) -> fmt::Result {
-        let low = self.0.low;
-        let high = self.0.high;
-        if self.0.down {
+        let Param { low, high, down } = self.0;
+        if down {
             write!(f, "{high} down to {low}")
         } else {
             write!(f, "{low} to {high}")
@@ -24,18 +23,12 @@ struct Sum(Rule);
 
 impl fmt::Display for Sum {
     fn fmt<W: fmt::Write>(&self, f: &mut fmt::Formatter<W>) -> fmt::Result {
-        let pick = self.0.pick;
         let add = self.0.add;
-        if pick >= 4 {
-            return write!(f, "{add}");
+        match self.0.pick {
+            None => write!(f, "{add}"),
+            Some(pick) if add == 0 => write!(f, "p{pick}"),
+            Some(pick) => write!(f, "p{pick}{add:+}"),
         }
-        if add > 0 {
-            return write!(f, "p{pick}+{add}");
-        }
-        if add < 0 {
-            return write!(f, "p{pick}{add}");
-        }
-        write!(f, "p{pick}")
     }
 }
 
@@ -46,19 +39,9 @@ pub struct Value(pub Rule);
 impl fmt::Display for Value {
     fn fmt<W: fmt::Write>(&self, f: &mut fmt::Formatter<W>) -> fmt::Result {
         let sum = Sum(self.0);
-        let divisor = self.0.divisor;
-        if divisor == 1 {
-            write!(f, "{sum}")
-        } else {
-            write!(f, "({sum})/{divisor}")
+        match self.0.divisor {
+            1 => write!(f, "{sum}"),
+            divisor => write!(f, "({sum})/{divisor}"),
         }
-    }
-}
-
-// The word for a side.
-pub(crate) fn side_word(side: Side) -> &'static str {
-    match side {
-        Side::Start => "start",
-        Side::Finish => "finish",
     }
 }

@@ -17,10 +17,8 @@ goes_on l = l % 2 == 0
 abbrev pub ends_of : ℕ → Ends
 ends_of l =
     record {
-      from = cond (goes_on l) (l / 2) (l / 2 + 1);
-      from_side = Finish;
-      to = cond (goes_on l) (l / 2 + 1) (l / 2);
-      to_side = Start;
+      from = record { task = cond (goes_on l) (l / 2) (l / 2 + 1); side = Finish };
+      to = record { task = cond (goes_on l) (l / 2 + 1) (l / 2); side = Start };
     }
 
 -- How many words further on a link's targets stand: none where it goes on, and `ahead` where it goes back.

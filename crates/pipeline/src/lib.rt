@@ -1,11 +1,11 @@
 // Pipelines: a plan source that stores nothing. It serves as the example of how to write one.
 #![tactic(auto)]
 
-ghost use Rattle.std.specs.Prelude.{◌≡◌, ◌≤◌, min, max};
-ghost use Rattle.plans.specs.Plan.{Keeps, lawful};
+ghost use Rattle.std.specs.Prelude.{◌≡◌, ◌≤◌, ◌&&◌, min, max, nat_lt, if◌then◌else◌};
+ghost use Rattle.plans.specs.Plan.{Keeps, kept};
 ghost use Rattle.pipeline.specs.Pipeline.{goes_on, pipeline_plan};
 
-use plans::{Ends, Side, Source, Word};
+use plans::{Ends, EventType, Side, Source, Word};
 
 // Tasks in a row, each repeated over the same words. A task waits for the one before it, word by word, and may run so many words
 // ahead of the next. That the plan keeps the rules of plans is part of the type.
@@ -33,6 +33,13 @@ impl Pipeline {
             ahead,
         }
     }
+
+    // A word is its own place: the number itself, where the task has it.
+    fn known(&self, task: usize, word: u32) -> Option<u32>
+        ensures { result ≡ (if nat_lt task self.now.tasks && nat_lt word self.now.words then Some word else None) }
+    {
+        (task < self.tasks && word < self.words).then_some(word)
+    }
 }
 
 // Whether a link goes on to the next task; else it goes back.
@@ -42,44 +49,30 @@ fn goes_on(link: usize) -> bool
     link % 2 == 0
 }
 
+#[tactic(auto, using(crate::proofs::Replies::replies))]
 impl Source for Pipeline {
-    ghost means = { λ p. lawful (pipeline_plan p.tasks p.words p.ahead) p.keeps };
+    ghost plan = { λ p. pipeline_plan p.tasks p.words p.ahead };
+
+    ghost keeps = { λ p. kept p.keeps };
 
     fn task_count(&self) -> usize {
         self.tasks
     }
 
     fn word_count(&self, task: usize) -> Option<u32> {
-        if task < self.tasks {
-            Some(self.words)
-        } else {
-            None
-        }
+        (task < self.tasks).then_some(self.words)
     }
 
-    // A word is its own place.
     fn word_at(&self, task: usize, place: u32) -> Option<Word> {
-        if task < self.tasks && place < self.words {
-            Some(place)
-        } else {
-            None
-        }
+        self.known(task, place)
     }
 
     fn place_of(&self, task: usize, word: Word) -> Option<u32> {
-        if task < self.tasks && word < self.words {
-            Some(word)
-        } else {
-            None
-        }
+        self.known(task, word)
     }
 
     fn next_word(&self, task: usize, word: Word) -> Option<Word> {
-        if task < self.tasks && word < self.words - 1 {
-            Some(word + 1)
-        } else {
-            None
-        }
+        self.known(task, word.checked_add(1)?)
     }
 
     // Two for each pair of neighbours.
@@ -98,10 +91,14 @@ impl Source for Pipeline {
             (task + 1, task)
         };
         Some(Ends {
-            from,
-            from_side: Side::Finish,
-            to,
-            to_side: Side::Start,
+            from: EventType {
+                task: from,
+                side: Side::Finish,
+            },
+            to: EventType {
+                task: to,
+                side: Side::Start,
+            },
         })
     }
 
@@ -111,10 +108,6 @@ impl Source for Pipeline {
             return None;
         }
         let shift = if goes_on(link) { 0 } else { self.ahead };
-        if shift < self.words - word {
-            Some(word + shift)
-        } else {
-            None
-        }
+        (shift < self.words - word).then(|| word + shift)
     }
 }

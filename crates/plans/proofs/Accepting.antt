@@ -1,7 +1,6 @@
 -- Bytes are accepted exactly if they describe a restricted parametrized partial order, and the plan then means it.
 use Rattle.std.proofs.Common.{◌≡◌, ℕ, ◌<◌, true, List, [], length, is_ok, Ok, Err, Result, sym, refl, ap, ◌∙◌, subst, arith}
 use Rattle.std.proofs.ByRecursion.{All-get_or, All-from_get_or}
-use Rattle.std.proofs.lemmas.Bool.{false≢true}
 use Rattle.plans.specs.declared.fault.Fault.{Fault}
 use Rattle.plans.specs.declared.ends.Side.{Side}
 use Rattle.plans.specs.declared.ends.Side.TheVariants.{Start, Finish}
@@ -21,37 +20,34 @@ use Rattle.plans.proofs.Writing.{read_writes}
 use Rattle.plans.proofs.Reread.{written_reads}
 use Rattle.plans.proofs.Unique.{written_once}
 use Rattle.plans.proofs.Restricting as restricting
-use Rattle.plans.proofs.Conditions.{rules_needed}
+use Rattle.plans.proofs.Conditions.{rules_needed, link_turn}
 use Rattle.plans.proofs.Carried.{conditions_carry, conditions_back, plan_means}
-
-no_turn : (l t : ℕ) (s : Side) → link l ≡ turn t s → ⊥
-no_turn l t s e = let z : ◌≡◌ {A = ℕ} 0 1 = cc in omega arith
+use Rattle.std.proofs.lemmas.Bool.Decides.{nat_tests}
 
 -- in a restricted order no link goes from a task to the same task
 module _ (d : Description) (lim : Limits d) (ppo : Ppo (described d)) (res : Restricted (described d)) where
-  module _ (l : ℕ) (h : l < length d.links) (same : (link_at d l).ends.from ≡ (link_at d l).ends.to) where
+  module _ (l : ℕ) (h : l < length d.links) (same : (link_at d l).ends.from.task ≡ (link_at d l).ends.to.task) where
     abbrev e : Ends
     e = (link_at d l).ends
 
     known : LinkLimits d (link_at d l)
     known = All-get_or (LinkLimits d) d.links l _ h lim.each_link
 
-    by_sides : (s u : Side) → e.from_side ≡ s → e.to_side ≡ u → ⊥
+    by_sides : (s u : Side) → e.from.side ≡ s → e.to.side ≡ u → ⊥
     by_sides Start Start is ut = res.apart (link l) h same (λ i. record { task = same i; side = (is ∙ sym ut) i })
     by_sides Finish Finish is ut = res.apart (link l) h same (λ i. record { task = same i; side = (is ∙ sym ut) i })
     by_sides Start Finish is ut =
-        no_turn l e.from Start (ppo.once (link l) (turn e.from Start) h known.from_known
-        (λ i. record { task = e.from; side = is i }) (λ i. record { task = sym same i; side = ut i }))
+        link_turn l e.from.task Start (ppo.once (link l) (turn e.from.task Start) h known.from_known
+        (λ i. record { task = e.from.task; side = is i }) (λ i. record { task = sym same i; side = ut i }))
     by_sides Finish Start is ut =
-        no_turn l e.from Finish (ppo.once (link l) (turn e.from Finish) h known.from_known
-        (λ i. record { task = e.from; side = is i }) (λ i. record { task = sym same i; side = ut i }))
+        link_turn l e.from.task Finish (ppo.once (link l) (turn e.from.task Finish) h known.from_known
+        (λ i. record { task = e.from.task; side = is i }) (λ i. record { task = sym same i; side = ut i }))
 
   links_apart : Apart d
-  links_apart = All-from_get_or (λ l. l.ends.from ≡ l.ends.to → ⊥) d.links _ (λ l h same. by_sides l h same (link_at d l).ends.from_side (link_at d l).ends.to_side refl refl)
+  links_apart = All-from_get_or (λ l. l.ends.from.task ≡ l.ends.to.task → ⊥) d.links _ (λ l h same. by_sides l h same (link_at d l).ends.from.side (link_at d l).ends.to.side refl refl)
 
 ok_of : (m : Result Parts Fault) → is_ok m ≡ true → (q : Parts) × (m ≡ Ok q)
-ok_of (Ok q) h = (q, refl)
-ok_of (Err e) h = absurd (false≢true h)
+ok_of m h = grind (arith, nat_tests)
 
 -- an accepted record describes such an order
 describes : (bs : List ℕ) (q : Parts) → checked bs ≡ Ok q → RecordOf bs

@@ -1,7 +1,9 @@
 -- Structures that differ in the coding of their valuations alone: one is a restricted parametrized partial order if the
 -- other is.
-use Rattle.std.proofs.Common.{◌≡◌, ℕ, zero, suc, ◌<◌, List, [], ◌∷◌, sym, refl, subst}
-use Rattle.plans.specs.Ppo.{EventType, start, end, Structure, Valued, Inhabited, Valuation, Joins, Ppo, Next, Steps, Upto, Restricted, Precedes}
+use Rattle.std.proofs.Common.{◌≡◌, ℕ, zero, suc, ◌<◌, List, [], ◌∷◌, sym, refl, subst, arith}
+use Rattle.plans.specs.declared.ends.EventType.{EventType}
+use Rattle.plans.specs.Ppo.{start, end, Structure, Valued, Inhabited, Valuation, Joins, Ppo, Next, Steps, Upto, Restricted, Precedes}
+use Rattle.std.proofs.lemmas.Bool.Decides.{nat_tests}
 
 -- the domains of a structure, and what its edges give
 abbrev pub Domains : Type 1
@@ -72,14 +74,10 @@ module _ (a : Structure) (D : Domains) (G : Relation a) (c : Coding a D G) where
       )
 
   next_typed : (t : ℕ) (v w : List ℕ) → Next a t v w → Valuation a t v × Valuation a t w
-  next_typed t v w n =
-      let j = n.0 in
-      let h = c.typed j.edge v w j.has n.1 in
-      (subst (λ z. Valuation a z.task v) j.from h.0, subst (λ z. Valuation a z.task w) j.to h.1)
+  next_typed t v w n = grind (arith, nat_tests)
 
   steps_typed : (t n : ℕ) (v w : List ℕ) → Steps a t n v w → Valuation a t w → Valuation a t v
-  steps_typed t zero v w s h = subst (Valuation a t) (sym s) h
-  steps_typed t (suc n) v w s h = (next_typed t v s.0 s.1).0
+  steps_typed t n v w s h = grind (arith, nat_tests)
 
   steps : (t n : ℕ) (v w v' w' : List ℕ) → t < a.tasks → c.Code t v v' → c.Code t w w' → Steps a t n v w → Steps (recoded a D G) t n v' w'
   steps t zero v w v' w' h cv cw s = c.one_code t v v' w' h cv (subst (λ u. c.Code t u w') (sym s) cw)

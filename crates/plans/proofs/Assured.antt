@@ -1,5 +1,6 @@
 -- What holds of the names, tasks and words of any bytes, for the crates above.
 use Rattle.std.proofs.Common.{◌≡◌, ℕ, zero, suc, ◌+◌, ◌-◌, ◌^◌, ◌<◌, ◌≤◌, List, [], ◌∷◌, ◌++◌, map, length, get_or, take, drop, replicate, Some, Ok, Err, Result, sym, refl, ap, ◌∙◌, subst, arith}
+use Rattle.std.proofs.lemmas.Option.{slice_get-map, slice_get_within}
 use Rattle.std.specs.Option.{option_map}
 use Rattle.std.specs.List.{AllByRecursion, slice_get}
 use Rattle.std.proofs.lemmas.List.{length-append, length-replicate, drop_at, get_or-drop, take-append-drop}
@@ -13,9 +14,9 @@ use Rattle.plans.specs.Record.{checked}
 use Rattle.plans.specs.Meaning.{parts_or}
 use Rattle.plans.specs.Names.{name_in, IsName}
 use Rattle.plans.specs.Description.{Task, Range, TaskLimits}
-use Rattle.plans.proofs.Places.{nth_map, nth_within, nth_place_in}
-use Rattle.plans.proofs.Mixed.{tuple_at, nth_tuples}
-use Rattle.plans.proofs.Words.{length_words, nth_words, length_tuple_at, under_tuple_at, values_of_word_of, word_of_values_of}
+use Rattle.plans.proofs.Places.{slice_get_place_in, get_or_replicate_same}
+use Rattle.plans.proofs.Mixed.{tuple_at, slice_get-tuples}
+use Rattle.plans.proofs.Words.{length_words, slice_get-words, length_tuple_at, under_tuple_at, values_of_word_of, word_of_values_of}
 use Rattle.plans.proofs.Filled.{tuples_filled, unused_are_zero}
 use Rattle.plans.proofs.Fields.{bytes_filled, count_filled}
 use Rattle.plans.proofs.Keeping.{word_narrow, checked_ok}
@@ -51,10 +52,10 @@ module _ (ps : List Param) (few : length ps ≤ 4) (ranges : AllByRecursion Rang
   k = 4 - length ps
 
   stands : slice_get (words (filled ps)) i ≡ Some w
-  stands = nth_place_in (words (filled ps)) w i e
+  stands = slice_get_place_in (words (filled ps)) w i e
 
   below : i < count (filled ps)
-  below = omega (arith, nth_within (words (filled ps)) i w stands, length_words (filled ps))
+  below = omega (arith, slice_get_within (words (filled ps)) i w stands, length_words (filled ps))
 
   four : length (filled ps) ≡ 4
   four = length-append ps (replicate k no_param) ∙ omega (arith, length-replicate k no_param)
@@ -68,25 +69,19 @@ module _ (ps : List Param) (few : length ps ≤ 4) (ranges : AllByRecursion Rang
   tuple : tuple_at (filled ps) i ≡ tuple_at ps i ++ replicate k 0
   tuple =
       let h = below in
-      let a = nth_tuples (filled ps) i h in
-      let b = ap (λ us. slice_get us i) (tuples_filled k ps) ∙ nth_map (λ vs. vs ++ replicate k 0) (tuples ps) i in
-      let c = ap (option_map (λ vs. vs ++ replicate k 0)) (nth_tuples ps i (omega (arith, count_filled k ps))) in
+      let a = slice_get-tuples (filled ps) i h in
+      let b = ap (λ us. slice_get us i) (tuples_filled k ps) ∙ slice_get-map (λ vs. vs ++ replicate k 0) (tuples ps) i in
+      let c = ap (option_map (λ vs. vs ++ replicate k 0)) (slice_get-tuples ps i (omega (arith, count_filled k ps))) in
       cc
 
   values : values_of w ≡ tuple_at ps i ++ replicate k 0
   values =
       let h = below in
-      let is : word_of (tuple_at (filled ps) i) ≡ w = (let s = stands in let n = nth_words (filled ps) i h in cc) in
+      let is : word_of (tuple_at (filled ps) i) ≡ w = (let s = stands in let n = slice_get-words (filled ps) i h in cc) in
       ap values_of (sym is) ∙ values_of_word_of (tuple_at (filled ps) i) (length_tuple_at (filled ps) i ∙ four) (under_tuple_at (filled ps) i bytes (omega arith)) ∙ tuple
 
   zeros : drop (length ps) (values_of w) ≡ replicate k 0
   zeros = ap (drop (length ps)) values ∙ drop_at (tuple_at ps i) (replicate k 0) (length ps) (length_tuple_at ps i)
-
-none_there : (n j : ℕ) → get_or {A = ℕ} (replicate n 0) j 0 ≡ 0
-none_there zero zero = refl
-none_there zero (suc j) = refl
-none_there (suc n) zero = refl
-none_there (suc n) (suc j) = none_there n j
 
 module _ (bs : List ℕ) where
   -- each task has a name, and of bytes it is one
@@ -118,7 +113,7 @@ module _ (bs : List ℕ) where
     unused_value k h =
         let n = (task_of (parts_or (checked bs)).tasks t).used in
         let at : n + (k - n) ≡ k = omega arith in
-        ap (λ j. get_or (values_of w) j 0) (sym at) ∙ sym (get_or-drop n (values_of w) (k - n) 0) ∙ ap (λ vs. get_or vs (k - n) 0) unused_zero ∙ none_there (4 - n) (k - n)
+        ap (λ j. get_or (values_of w) j 0) (sym at) ∙ sym (get_or-drop n (values_of w) (k - n) 0) ∙ ap (λ vs. get_or vs (k - n) 0) unused_zero ∙ get_or_replicate_same {X = ℕ} (4 - n) 0 0 refl (k - n)
 
     -- so the values that it uses tell the word
     pub used_tell : word_of (take (task_of (parts_or (checked bs)).tasks t).used (values_of w) ++ replicate (4 - (task_of (parts_or (checked bs)).tasks t).used) 0) ≡ w

@@ -11,14 +11,10 @@ use Rattle.plans.specs.Layout.{task, link, padding, name, body, counts, ended, f
 pub next_ok : {A B : Type 0} (m : Read A) (f : A → Read B) (at : ℕ) (x : A) (mid : ℕ) → m at ≡ Ok (x, mid) → next m f at ≡ f x mid
 next_ok m f at x mid h = ap (λ r. on_ok r (λ q. f q.0 q.1)) h
 
-pub body_read : (bs bs1 bs2 bs3 : List ℕ) (n : Counts) (at a b c d : ℕ) (ts : List Params) (ls : List Link) (ns : List Name) (u : Unit {0})
-    → bs1 ≡ bs → bs2 ≡ bs → bs3 ≡ bs
-    → times n.tasks (task bs) at ≡ Ok (ts, a) → times n.links (link bs1 ts) a ≡ Ok (ls, b) → padding bs2 b ≡ Ok (u, c) → times n.tasks (name bs3) c ≡ Ok (ns, d)
+pub body_read : (bs : List ℕ) (n : Counts) (at a b c d : ℕ) (ts : List Params) (ls : List Link) (ns : List Name) (u : Unit {0})
+    → times n.tasks (task bs) at ≡ Ok (ts, a) → times n.links (link bs ts) a ≡ Ok (ls, b) → padding bs b ≡ Ok (u, c) → times n.tasks (name bs) c ≡ Ok (ns, d)
     → body bs n at ≡ Ok (record { tasks = ts; links = ls; names = ns }, d)
-body_read bs bs1 bs2 bs3 n at a b c d ts ls ns u s1 s2 s3 rt rl' rp' rn' =
-    let rl = rw s1 at rl' in
-    let rp = rw s2 at rp' in
-    let rn = rw s3 at rn' in
+body_read bs n at a b c d ts ls ns u rt rl rp rn =
     next_ok (times n.tasks (task bs)) (λ ts. next (times n.links (link bs ts)) (λ ls.
     next (padding bs) (λ _. next (times n.tasks (name bs)) (λ ns. give (record { tasks = ts; links = ls; names = ns }))))) at ts a rt
     ∙ next_ok (times n.links (link bs ts)) (λ ls.

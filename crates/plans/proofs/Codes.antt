@@ -1,65 +1,57 @@
--- Flags, sides and numbers in two's complement, to their bits and back.
-use Rattle.std.proofs.Common.{◌≡◌, ℕ, zero, suc, ◌+◌, ◌-◌, ◌<◌, ◌≤◌, Bool, true, false, cond, eqb, ltb, ℤ, pos, negsuc, ◌-ℤ◌, ◌≤ℤ◌, refl, ap, ◌∙◌, inl, inr, arith}
-use Rattle.std.proofs.lemmas.Int.{ints}
-use Rattle.std.proofs.lemmas.Bool.{cases_lt, lt-ltb, le-ltb, cond-true, cond-false}
+-- Flags, sides, picks and numbers in two's complement, to their bits and back.
+use Rattle.std.proofs.Common.{◌≡◌, ℕ, ◌<◌, ◌≤◌, Bool, cond, eqb, Some, None, IfSome, Option, ℤ, pos, negsuc, ◌≤ℤ◌, sym, refl, ap, ◌∙◌, inl, inr, arith}
+use Rattle.std.proofs.lemmas.Bool.{cases_eq, eq-eqb, ne_eqb, cond-true, cond-false}
 use Rattle.plans.specs.declared.ends.Side.{Side}
-use Rattle.plans.specs.declared.ends.Side.TheVariants.{Start, Finish}
-use Rattle.plans.specs.Layout.{twos, side_of}
-use Rattle.plans.specs.Description.{complement, side_bit}
+use Rattle.plans.specs.Layout.{twos, pick_of, side_of}
+use Rattle.plans.specs.Description.{complement, pick_number, side_bit}
+use Rattle.std.proofs.lemmas.Bool.Decides.{nat_tests}
 
 pub flag_bit : (n : ℕ) → n < 2 → n ≡ cond (eqb n 1) 1 0
-flag_bit zero h = refl
-flag_bit (suc zero) h = refl
-flag_bit (suc (suc n)) h = absurd (omega arith)
+flag_bit n h = grind (arith, nat_tests)
 
 pub flag_of : (b : Bool) → eqb (cond b 1 0) 1 ≡ b
-flag_of true = refl
-flag_of false = refl
+flag_of b = grind (arith, nat_tests)
 
 pub flag_small : (b : Bool) → cond b 1 0 < 2
-flag_small true = omega arith
-flag_small false = omega arith
+flag_small b = grind (arith, nat_tests)
 
 pub side_bit_lem : (n : ℕ) → n < 2 → n ≡ side_bit (side_of n)
-side_bit_lem zero h = refl
-side_bit_lem (suc zero) h = refl
-side_bit_lem (suc (suc n)) h = absurd (omega arith)
+side_bit_lem n h = grind (arith, nat_tests)
 
 pub side_of_lem : (s : Side) → side_of (side_bit s) ≡ s
-side_of_lem Start = refl
-side_of_lem Finish = refl
+side_of_lem s = grind (arith, nat_tests)
 
 pub side_small : (s : Side) → side_bit s < 2
-side_small Start = omega arith
-side_small Finish = omega arith
+side_small s = grind (arith, nat_tests)
 
-twos_low : (n : ℕ) → n < 256 → twos 9 n ≡ pos n
-twos_low n h = cond-true (ltb n 256) (pos n) (pos n -ℤ pos 512) (lt-ltb n 256 h)
+-- a number from what it picks
+pub pick_number_of : (n : ℕ) → pick_number (pick_of n) ≡ n
+pick_number_of n = elim (cases_eq n 4) [
+  | inl four ↦ ap pick_number (cond-true (eqb n 4) None (Some n) (eq-eqb n 4 four)) ∙ sym four
+  | inr other ↦ ap pick_number (cond-false (eqb n 4) None (Some n) (ne_eqb n 4 other))
+]
 
-twos_high : (n : ℕ) → 256 ≤ n → n < 512 → twos 9 n ≡ negsuc (511 - n)
-twos_high n h k =
-    let same : pos n -ℤ pos 512 ≡ negsuc (511 - n) = omega (arith, ints) in
-    cond-false (ltb n 256) (pos n) (pos n -ℤ pos 512) (le-ltb n 256 h) ∙ same
+-- where a number that is picked is one of four, what is picked is told by its number, which fits its field
+pub pick_of_number : (o : Option ℕ) → IfSome o (λ n. n < 4) → pick_of (pick_number o) ≡ o
+pick_of_number None h = refl
+pick_of_number (Some n) h = cond-false (eqb n 4) None (Some n) (ne_eqb n 4 (omega arith))
+
+pub pick_small : (o : Option ℕ) → IfSome o (λ n. n < 4) → pick_number o < 8
+pick_small None h = omega arith
+pick_small (Some n) h = omega arith
+
+pub pick_few : (o : Option ℕ) (sources : ℕ) → sources ≤ 4 → IfSome o (λ n. n < sources) → IfSome o (λ n. n < 4)
+pick_few None sources few h = tt
+pick_few (Some n) sources few h = omega arith
 
 pub twos_range : (n : ℕ) → n < 512 → (negsuc 255 ≤ℤ twos 9 n) × (twos 9 n ≤ℤ pos 255)
-twos_range n h = elim (cases_lt n 256) [
-  | inl low ↦ rw (twos_low n low) (omega (arith, ints), omega (arith, ints))
-  | inr high ↦ rw (twos_high n high h) (omega (arith, ints), omega (arith, ints))
-]
+twos_range n h = grind (arith, nat_tests)
 
 pub complement_twos : (n : ℕ) → n < 512 → complement 9 (twos 9 n) ≡ n
-complement_twos n h = elim (cases_lt n 256) [
-  | inl low ↦ ap (complement 9) (twos_low n low)
-  | inr high ↦ ap (complement 9) (twos_high n high h) ∙ omega arith
-]
+complement_twos n h = grind (arith, nat_tests)
 
 pub twos_complement : (z : ℤ) → negsuc 255 ≤ℤ z → z ≤ℤ pos 255 → twos 9 (complement 9 z) ≡ z
-twos_complement (pos n) low high = twos_low n (omega (arith, ints))
-twos_complement (negsuc n) low high =
-    let small : n ≤ 255 = omega (arith, ints) in
-    let back : 511 - (512 - (n + 1)) ≡ n = omega arith in
-    twos_high (512 - (n + 1)) (omega arith) (omega arith) ∙ ap negsuc back
+twos_complement z low high = grind (arith, nat_tests)
 
 pub complement_small : (z : ℤ) → negsuc 255 ≤ℤ z → z ≤ℤ pos 255 → complement 9 z < 512
-complement_small (pos n) low high = let small : n ≤ 255 = omega (arith, ints) in omega arith
-complement_small (negsuc n) low high = omega arith
+complement_small z low high = grind (arith, nat_tests)

@@ -1,5 +1,5 @@
 -- What is known of fields that were accepted.
-use Rattle.std.proofs.Common.{◌≡◌, ℕ, zero, suc, ◌+◌, ◌*◌, ◌^◌, ◌<◌, ◌≤◌, Bool, true, false, eqb, ltb, leb, List, [], ◌∷◌, ◌++◌, length, replicate, Ok, Err, Result, sym, refl, ap, ◌∙◌, inl, inr, mul-pos, arith}
+use Rattle.std.proofs.Common.{◌≡◌, ℕ, zero, suc, ◌+◌, ◌*◌, ◌^◌, ◌<◌, ◌≤◌, Bool, true, eqb, ltb, leb, List, [], ◌∷◌, ◌++◌, length, replicate, Ok, Result, sym, refl, ap, ◌∙◌, inl, inr, mul-pos, arith}
 use Rattle.std.proofs.lemmas.Bool.{cases_Bool, leb-true, and_from, lt-ltb}
 use Rattle.bits.specs.declared.Fault as bit
 use Rattle.bits.specs.Bits.{bits, field, spelled}
@@ -13,23 +13,21 @@ use Rattle.plans.specs.Reads.{on_ok, next, unless, give, lifted, number, number_
 use Rattle.plans.specs.Layout.{no_param, param}
 use Rattle.plans.specs.Words.{base, size, count, hold_bytes, Bytes}
 use Rattle.std.specs.List.{AllByRecursion}
+use Rattle.std.proofs.lemmas.Bool.Decides.{nat_tests}
 
 pub on_ok_ok : {A B : Type 0} (r : Result A Fault) (f : A → Result B Fault) (y : B) → on_ok r f ≡ Ok y → (x : A) × (r ≡ Ok x) × (f x ≡ Ok y)
-on_ok_ok (Ok x) f y e = (x, refl, e)
-on_ok_ok (Err d) f y e = absurd (let z : ◌≡◌ {A = ℕ} 0 1 = cc in omega arith)
+on_ok_ok r f y e = grind (arith, nat_tests)
 
 lifted_ok : {A : Type 0} (r : Result A bit.Fault) (at : ℕ) (x : A × ℕ) → lifted r at ≡ Ok x → r ≡ Ok x.0
-lifted_ok (Ok y) at x e = let h : (y, at) ≡ x = cc in ap (λ p. Ok p.0) h
-lifted_ok (Err d) at x e = absurd (let z : ◌≡◌ {A = ℕ} 0 1 = cc in omega arith)
+lifted_ok r at x e = grind (arith, nat_tests)
 
 pub unless_ok : (test : Bool) (k : Kind) (begin at : ℕ) (x : Unit {0} × ℕ) → unless test k begin at ≡ Ok x → test ≡ true
-unless_ok true k begin at x h = refl
-unless_ok false k begin at x h = absurd (let z : ◌≡◌ {A = ℕ} 0 1 = cc in omega arith)
+unless_ok test k begin at x h = grind (arith, nat_tests)
 
 field_at_lt : (bs : List ℕ) (at width n : ℕ) → field_at bs at width ≡ Ok n → n < 2 ^ width
 field_at_lt bs at width n e =
     elim (cases_Bool (ltb (length (bits bs)) (at + width))) [
-      | inl t ↦ absurd (let f = rw t at e in let z : ◌≡◌ {A = ℕ} 0 1 = cc in omega arith)
+      | inl t ↦ absurd (let f = rw t at e in cc)
       | inr t ↦ (let f = rw t at e in let same : spelled (field bs at width) ≡ n = cc in omega (arith, field_lt bs at width))
     ]
 
@@ -44,7 +42,7 @@ number_that_ok bs width test k at x h =
     let low = number_ok bs width at a.0 a.1 in
     elim (cases_Bool (test n)) [
       | inl t ↦ (let f = rw t at a.2 in let whole : (n, a.0.1) ≡ x = cc in let same : n ≡ x.0 = ap (λ q. q.0) whole in (rw (← same) t, rw (← same) low))
-      | inr t ↦ absurd (let f = rw t at a.2 in let z : ◌≡◌ {A = ℕ} 0 1 = cc in omega arith)
+      | inr t ↦ absurd (let f = rw t at a.2 in cc)
     ]
 
 -- an accepted parameter is a range of bytes
@@ -101,6 +99,4 @@ count_some (p ∷ ps) all = mul-pos (let r = all.0 in omega arith) (count_some p
 -- a field and a task as they are read
 pub number_that_from : (bs : List ℕ) (width : ℕ) (test : ℕ → Bool) (k : Kind) (at n : ℕ)
     → field_at bs at width ≡ Ok n → test n ≡ true → number_that bs width test k at ≡ Ok (n, at + width)
-number_that_from bs width test k at n read t =
-    ap (λ r. on_ok (lifted r (at + width)) (λ q. next (unless (test q.0) k at) (λ _. give q.0) q.1)) read
-    ∙ ap (λ b. next (unless b k at) (λ _. give n) (at + width)) t
+number_that_from bs width test k at n read t = grind (arith, nat_tests)

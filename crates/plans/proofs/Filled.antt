@@ -5,21 +5,18 @@ use Rattle.std.proofs.lemmas.List.{map-append}
 use Rattle.plans.specs.declared.param.Param.{Param}
 use Rattle.plans.specs.Words.{values, tuples, words, word_of}
 use Rattle.plans.specs.Layout.{no_param, filled}
+use mathlib.Core.List.{map-map}
 
 unused : (k : ℕ) → tuples (replicate k no_param) ≡ replicate k 0 ∷ []
 unfolding tuples
 unused zero = refl
 unused (suc k) = rw (unused k)
 
-under : (k v : ℕ) (us : List (List ℕ)) → map (λ vs. v ∷ vs) (map (λ vs. vs ++ replicate k 0) us) ≡ map (λ vs. vs ++ replicate k 0) (map (λ vs. v ∷ vs) us)
-under k v [] = refl
-under k v (u ∷ us) = ap (λ rest. ((v ∷ u) ++ replicate k 0) ∷ rest) (under k v us)
-
 lift : (k : ℕ) (us : List (List ℕ)) (vs : List ℕ)
     → flat_map (λ v. map (λ ws. v ∷ ws) (map (λ ws. ws ++ replicate k 0) us)) vs ≡ map (λ ws. ws ++ replicate k 0) (flat_map (λ v. map (λ ws. v ∷ ws) us) vs)
 lift k us [] = refl
 lift k us (v ∷ vs) =
-    ap (λ front. front ++ flat_map (λ v. map (λ ws. v ∷ ws) (map (λ ws. ws ++ replicate k 0) us)) vs) (under k v us)
+    ap (λ front. front ++ flat_map (λ v. map (λ ws. v ∷ ws) (map (λ ws. ws ++ replicate k 0) us)) vs) (map-map (λ vs. v ∷ vs) (λ vs. vs ++ replicate k 0) us ∙ sym (map-map (λ vs. vs ++ replicate k 0) (λ vs. v ∷ vs) us))
     ∙ ap (λ rest. map (λ ws. ws ++ replicate k 0) (map (λ ws. v ∷ ws) us) ++ rest) (lift k us vs)
     ∙ sym (map-append (λ ws. ws ++ replicate k 0) (map (λ ws. v ∷ ws) us) (flat_map (λ v. map (λ ws. v ∷ ws) us) vs))
 
@@ -29,9 +26,5 @@ tuples_filled k [] = unused k
 tuples_filled k (p ∷ ps) =
     ap (λ us. flat_map (λ v. map (λ ws. v ∷ ws) us) (values p)) (tuples_filled k ps) ∙ lift k (tuples ps) (values p)
 
-map_map : (k : ℕ) (us : List (List ℕ)) → map word_of (map (λ vs. vs ++ replicate k 0) us) ≡ map (λ vs. word_of (vs ++ replicate k 0)) us
-map_map k [] = refl
-map_map k (u ∷ us) = ap (λ rest. word_of (u ++ replicate k 0) ∷ rest) (map_map k us)
-
 pub unused_are_zero : (ps : List Param) → words (filled ps) ≡ map (λ vs. word_of (vs ++ replicate (4 - length ps) 0)) (tuples ps)
-unused_are_zero ps = let k = 4 - length ps in ap (map word_of) (tuples_filled k ps) ∙ map_map k (tuples ps)
+unused_are_zero ps = let k = 4 - length ps in ap (map word_of) (tuples_filled k ps) ∙ map-map word_of (λ vs. vs ++ replicate k 0) (tuples ps)

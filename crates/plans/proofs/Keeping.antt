@@ -1,11 +1,11 @@
 -- An accepted record describes a plan that keeps the rules.
-use Rattle.std.proofs.Common.{◌≡◌, ℕ, zero, suc, ◌^◌, ◌<◌, ◌≤◌, Bool, true, false, not, List, [], ◌∷◌, map, length, get_or, is_some, Some, None, Ok, Err, Option, Result, sym, refl, ap, ◌∙◌, subst, ⊎_elim, arith}
+use Rattle.std.proofs.Common.{◌≡◌, ℕ, ◌^◌, ◌<◌, ◌≤◌, true, List, [], map, length, get_or, is_some, Some, None, Ok, Option, sym, ap, ◌∙◌, subst, ⊎_elim, arith}
 use Rattle.std.specs.Option.{option_map}
 use Rattle.std.specs.List.{slice_get}
-use Rattle.std.proofs.lemmas.List.{length-map, length-take-le}
-use Rattle.std.proofs.lemmas.Option.{slice_get-get_or}
+use Rattle.std.proofs.lemmas.List.{length-map, get_or-map, get_or_past}
+use Rattle.std.proofs.lemmas.Option.{slice_get-get_or, slice_get-map, slice_get_within, gets}
 use Rattle.std.proofs.lemmas.Int.Digits.{number_lt}
-use Rattle.std.proofs.lemmas.Bool.{cases_lt, false≢true}
+use Rattle.std.proofs.lemmas.Bool.{cases_lt, false≢true, not-false}
 use Rattle.plans.specs.declared.param.Param.{Param}
 use Rattle.plans.specs.declared.rule.Rule.{Rule}
 use Rattle.plans.specs.declared.shapes.Params.{Params}
@@ -14,25 +14,21 @@ use Rattle.plans.specs.Words.{base, most_words, words, count, Bytes, word_of}
 use Rattle.plans.specs.Targets.{target_at}
 use Rattle.plans.specs.Layout.{Parts, no_task, task_of, fields}
 use Rattle.plans.specs.Order.{rising, places_of, place_of_target}
-use Rattle.plans.specs.Record.{no_link, link_at, first_below, repeats, same_ends, unordered, or_fault, late, checked}
+use Rattle.plans.specs.Record.{no_link, link_at, first_below, repeats, same_ends, unordered, checked}
 use Rattle.plans.specs.Accepted.{Good, good_links}
-use Rattle.plans.specs.declared.fault.Fault.{Fault}
-use Rattle.plans.specs.declared.fault.Kind.TheVariants as kind
-use Rattle.plans.specs.declared.record.Record.{Record}
-use Rattle.plans.specs.Decoded.{links_of, shown}
-use Rattle.plans.proofs.Fields.{on_ok_ok}
 use Rattle.plans.specs.Order.{Ordered}
 use Rattle.plans.specs.Plan.{Link, KeepsLink, Keeps, words_of, task_count}
 use Rattle.plans.specs.Orders.{Within}
-use Rattle.plans.specs.Meaning.{task_words, plan_link, plan_of, parts_or}
-use Rattle.plans.proofs.Places.{nth_map, nth_within, mapped_some}
+use Rattle.plans.specs.Meaning.{task_words, plan_link, plan_of}
 use Rattle.plans.proofs.Mixed.{tuple_at}
-use Rattle.plans.proofs.Words.{length_words, nth_words, length_tuple_at, under_tuple_at, words_differ}
+use Rattle.plans.proofs.Words.{length_words, slice_get-words, length_tuple_at, under_tuple_at, words_differ}
 use Rattle.plans.proofs.Accepted.{Sound, good_at, good_link_at}
 use Rattle.plans.proofs.First.{first_some, none_is}
-use Rattle.plans.proofs.Held.{links_long, join_parts, ends_same}
+use Rattle.plans.proofs.Held.{join_parts, ends_same}
 use Rattle.plans.proofs.Landing.{target_lands}
 use Rattle.plans.proofs.Ordering.{order_is_tested}
+use Rattle.plans.proofs.Places.{option_map_some}
+use Rattle.std.proofs.lemmas.Grind.{common_steps}
 
 -- what fields in order have shown
 pub record ReadFacts (p : Parts) : Type 0 where
@@ -48,23 +44,15 @@ pub record Facts (p : Parts) : Type 0 where
   pub ordered : first_below (unordered p.tasks p.links) (length p.links) ≡ None
 
 pub words_in : (ts : List Params) (t : ℕ) → t < length ts → get_or (map task_words ts) t [] ≡ words (task_of ts t).each
-words_in [] t h = absurd (omega arith)
-words_in (p ∷ ts) zero h = refl
-words_in (p ∷ ts) (suc t) h = words_in ts t (omega arith)
+words_in ts t h = get_or-map task_words ts t no_task [] h
 
 pub words_out : (ts : List Params) (t : ℕ) → length ts ≤ t → get_or (map task_words ts) t [] ≡ []
-words_out [] zero h = refl
-words_out [] (suc t) h = refl
-words_out (p ∷ ts) zero h = absurd (omega arith)
-words_out (p ∷ ts) (suc t) h = words_out ts t (omega arith)
-
-none_at : {X : Type 0} (i : ℕ) (x : X) → slice_get [] i ≡ Some x → ⊥
-none_at i x e = let z : ◌≡◌ {A = ℕ} 0 1 = cc in omega arith
+words_out ts t h = get_or_past (map task_words ts) t [] (omega (arith, length-map ts task_words))
 
 pub word_narrow : (ps : List Param) (i w : ℕ) → length ps ≡ 4 → Bytes ps → 0 < count ps → slice_get (words ps) i ≡ Some w → w < 2 ^ 32
 word_narrow ps i w four bytes pos e =
-    let below : i < count ps = omega (arith, nth_within (words ps) i w e, length_words ps) in
-    let is : word_of (tuple_at ps i) ≡ w = (let n = nth_words ps i below in cc) in
+    let below : i < count ps = omega (arith, slice_get_within (words ps) i w e, length_words ps) in
+    let is : word_of (tuple_at ps i) ≡ w = (let n = slice_get-words ps i below in cc) in
     let long : length (tuple_at ps i) ≡ 4 = length_tuple_at ps i ∙ four in
     let lt : word_of (tuple_at ps i) < base ^ 4 = subst (λ n. word_of (tuple_at ps i) < base ^ n) long (number_lt base (tuple_at ps i) (under_tuple_at ps i bytes pos)) in
     omega (arith, is, lt)
@@ -79,12 +67,12 @@ module _ (from to : List Param) (rs : List Rule) where
 
   pub reply : (i : ℕ) (o : Option ℕ) → slice_get targets i ≡ Some o → slice_get places i ≡ Some (and_then o (place_in (words to)))
   reply i o e =
-      let m = mapped_some (target_at from to rs) (slice_get (words from) i) o (sym (nth_map (target_at from to rs) (words from) i) ∙ e) in
-      nth_map (place_of_target from to rs) (words from) i ∙ ap (option_map (place_of_target from to rs)) m.1 ∙ ap (λ q. Some (and_then q (place_in (words to)))) m.2
+      let m = option_map_some (target_at from to rs) (slice_get (words from) i) o (sym (slice_get-map (target_at from to rs) (words from) i) ∙ e) in
+      slice_get-map (place_of_target from to rs) (words from) i ∙ ap (option_map (place_of_target from to rs)) m.1 ∙ ap (λ q. Some (and_then q (place_in (words to)))) m.2
 
   pub landed : (i w : ℕ) → slice_get targets i ≡ Some (Some w) → (j : ℕ) × (place_in (words to) w ≡ Some j)
   landed i w e =
-      let m = mapped_some (target_at from to rs) (slice_get (words from) i) (Some w) (sym (nth_map (target_at from to rs) (words from) i) ∙ e) in
+      let m = option_map_some (target_at from to rs) (slice_get (words from) i) (Some w) (sym (slice_get-map (target_at from to rs) (words from) i) ∙ e) in
       target_lands from to rs m.0 w m.2
 
   pub placed : (i w a : ℕ) → slice_get targets i ≡ Some (Some w) → place_in (words to) w ≡ Some a → slice_get places i ≡ Some (Some a)
@@ -95,8 +83,8 @@ module _ (from to : List Param) (rs : List Rule) where
       let l = landed j w f in
       let at_i = reply i None e in
       let at_j = placed j w l.0 f l.1 in
-      ⊎_elim (λ below. let g = o.first i below in let h : ◌≡◌ {A = Option (Option ℕ)} (Some (Some g.0)) (Some None) = sym g.1 ∙ at_i in let z : ◌≡◌ {A = ℕ} 0 1 = cc in omega arith)
-      (λ above. let g = o.after j (omega arith) (nth_within places j (Some l.0) at_j) in let h : ◌≡◌ {A = Option (Option ℕ)} (Some (Some l.0)) (Some None) = sym at_j ∙ g in let z : ◌≡◌ {A = ℕ} 0 1 = cc in omega arith)
+      ⊎_elim (λ below. let g = o.first i below in let h : ◌≡◌ {A = Option (Option ℕ)} (Some (Some g.0)) (Some None) = sym g.1 ∙ at_i in cc)
+      (λ above. let g = o.after j (omega arith) (slice_get_within places j (Some l.0) at_j) in let h : ◌≡◌ {A = Option (Option ℕ)} (Some (Some l.0)) (Some None) = sym at_j ∙ g in cc)
       (cases_lt i o.d)
 
 module _ (p : Parts) (f : ReadFacts p) where
@@ -108,8 +96,7 @@ module _ (p : Parts) (f : ReadFacts p) where
 
   -- a word of a task is one of a known task
   word_known : (t i w : ℕ) → slice_get (words_of (plan_of p) t) i ≡ Some w → t < length p.tasks
-  word_known t i w e =
-      ⊎_elim (λ below. below) (λ above. absurd (none_at i w (ap (λ ws. slice_get ws i) (sym (words_out p.tasks t above)) ∙ e))) (cases_lt t (length p.tasks))
+  word_known t i w e = grind (arith, common_steps, gets)
 
   in_words : (t i w : ℕ) (h : t < length p.tasks) → slice_get (words_of (plan_of p) t) i ≡ Some w → slice_get (words (task_of p.tasks t).each) i ≡ Some w
   in_words t i w h e = ap (λ ws. slice_get ws i) (sym (words_in p.tasks t h)) ∙ e
@@ -122,14 +109,7 @@ module _ (p : Parts) (f : ReadFacts p) where
 
   -- a link of the plan is one of the record
   pub link_is : (l : ℕ) (k : Link) → slice_get (map (plan_link p.tasks) p.links) l ≡ Some k → (l < length p.links) × (plan_link p.tasks (link_at p.links l) ≡ k)
-  link_is l k e =
-      let h : l < length p.links = omega (arith, nth_within (map (plan_link p.tasks) p.links) l k e, length-map p.links (plan_link p.tasks)) in
-      let m = nth_map (plan_link p.tasks) p.links l ∙ ap (option_map (plan_link p.tasks)) (slice_get-get_or p.links l no_link h) in
-      let same : Some (plan_link p.tasks (link_at p.links l)) ≡ Some k = sym m ∙ e in
-      (h, some_same (plan_link p.tasks (link_at p.links l)) k same)
-    where
-      some_same : (x y : Link) → Some x ≡ Some y → x ≡ y
-      some_same x y e = cc
+  link_is l k e = grind (arith, common_steps, gets)
 
   narrow : (t i w : ℕ) → slice_get (words_of (plan_of p) t) i ≡ Some w → w < 2 ^ 32
   narrow t i w e =
@@ -138,14 +118,14 @@ module _ (p : Parts) (f : ReadFacts p) where
       word_narrow (task_of p.tasks t).each i w s.four s.bytes s.some (in_words t i w b e)
 
   pub link_in : (j : ℕ) → j < length p.links → slice_get (plan_of p).links j ≡ Some (plan_link p.tasks (link_at p.links j))
-  link_in j h = nth_map (plan_link p.tasks) p.links j ∙ ap (option_map (plan_link p.tasks)) (slice_get-get_or p.links j no_link h)
+  link_in j h = slice_get-map (plan_link p.tasks) p.links j ∙ ap (option_map (plan_link p.tasks)) (slice_get-get_or p.links j no_link h)
 
-  replies : (l : ℕ) → l < length p.links → length (plan_link p.tasks (link_at p.links l)).targets ≡ length (words_of (plan_of p) (link_at p.links l).ends.from)
+  replies : (l : ℕ) → l < length p.links → length (plan_link p.tasks (link_at p.links l)).targets ≡ length (words_of (plan_of p) (link_at p.links l).ends.from.task)
   replies l h =
       let k = link_at p.links l in
       let e = join_parts (length p.tasks) k.ends (good_link_at (length p.tasks) p.links l no_link f.links_sound h).joins in
-      let from = (task_of p.tasks k.ends.from).each in
-      length-map (words from) (target_at from (task_of p.tasks k.ends.to).each k.rules) ∙ ap length (sym (words_in p.tasks k.ends.from e.0))
+      let from = (task_of p.tasks k.ends.from.task).each in
+      length-map (words from) (target_at from (task_of p.tasks k.ends.to.task).each k.rules) ∙ ap length (sym (words_in p.tasks k.ends.from.task e.0))
 
   -- the plan keeps the limits of plans
   pub within : Within (plan_of p)
@@ -155,7 +135,7 @@ module _ (p : Parts) (f : ReadFacts p) where
         few_words = few_words;
         narrow = narrow;
         few_links = omega (arith, f.few_links, length-map p.links (plan_link p.tasks));
-        replies = λ l k e. (let i = link_is l k e in subst (λ x. length x.targets ≡ length (words_of (plan_of p) x.ends.from)) i.1 (replies l i.0));
+        replies = λ l k e. (let i = link_is l k e in subst (λ x. length x.targets ≡ length (words_of (plan_of p) x.ends.from.task)) i.1 (replies l i.0));
       }
 
 module _ (p : Parts) (f : Facts p) where
@@ -165,10 +145,10 @@ module _ (p : Parts) (f : Facts p) where
       let l = link_at p.links j in
       let s = good_link_at (length p.tasks) p.links j no_link f.read.links_sound h in
       let e = join_parts (length p.tasks) l.ends s.joins in
-      let from = (task_of p.tasks l.ends.from).each in
-      let to = (task_of p.tasks l.ends.to).each in
-      let there = words_in p.tasks l.ends.to e.1 in
-      let up : rising 0 (places_of p.tasks l) ≡ true = kept (rising 0 (places_of p.tasks l)) (none_is (unordered p.tasks p.links) (length p.links) f.ordered j h) in
+      let from = (task_of p.tasks l.ends.from.task).each in
+      let to = (task_of p.tasks l.ends.to.task).each in
+      let there = words_in p.tasks l.ends.to.task e.1 in
+      let up : rising 0 (places_of p.tasks l) ≡ true = not-false (rising 0 (places_of p.tasks l)) (none_is (unordered p.tasks p.links) (length p.links) f.ordered j h) in
       let o : Ordered (places_of p.tasks l) = (order_is_tested (places_of p.tasks l)).0 up in
       record {
         from_known = omega (arith, e.0, length-map p.tasks task_words);
@@ -180,10 +160,6 @@ module _ (p : Parts) (f : Facts p) where
         in_order = λ i k v w a b le r q m n.
             o.keeps i k a b le (placed from to l.rules i v a r (ap (λ ws. place_in ws v) (sym there) ∙ m)) (placed from to l.rules k w b q (ap (λ ws. place_in ws w) (sym there) ∙ n));
       }
-    where
-      kept : (b : Bool) → not b ≡ false → b ≡ true
-      kept true h = refl
-      kept false h = absurd (false≢true (sym h))
 
   -- two links with the same ends are one
   not_later : (l m : ℕ) → l < m → m < length p.links → (link_at p.links l).ends ≡ (link_at p.links m).ends → ⊥
@@ -215,46 +191,6 @@ module _ (p : Parts) (f : Facts p) where
             (cases_lt l m));
       }
 
--- what a record that passes has shown, and the parts of one that does not
-late_ok : (p q : Parts) → late p ≡ Ok q → (first_below (repeats p.links) (length p.links) ≡ None) × (first_below (unordered p.tasks p.links) (length p.links) ≡ None) × (p ≡ q)
-late_ok p q h = by (first_below (repeats p.links) (length p.links)) (first_below (unordered p.tasks p.links) (length p.links)) refl refl h
-  where
-    by : (a b : Option ℕ) → first_below (repeats p.links) (length p.links) ≡ a → first_below (unordered p.tasks p.links) (length p.links) ≡ b
-        → or_fault kind.Repeated p.links a (or_fault kind.Order p.links b (Ok p)) ≡ Ok q
-        → (first_below (repeats p.links) (length p.links) ≡ None) × (first_below (unordered p.tasks p.links) (length p.links) ≡ None) × (p ≡ q)
-    by None None ea eb h = (ea, eb, cc)
-    by None (Some j) ea eb h = absurd (let z : ◌≡◌ {A = ℕ} 0 1 = cc in omega arith)
-    by (Some j) b ea eb h = absurd (let z : ◌≡◌ {A = ℕ} 0 1 = cc in omega arith)
-
 pub checked_ok : (bs : List ℕ) (q : Parts) → checked bs ≡ Ok q → (fields bs ≡ Ok q) × (first_below (repeats q.links) (length q.links) ≡ None) × (first_below (unordered q.tasks q.links) (length q.links) ≡ None)
 unfolding checked
-checked_ok bs q h =
-    let a = on_ok_ok (fields bs) late q h in
-    let l = late_ok a.0 q a.2 in
-    (a.1 ∙ ap Ok l.2, subst (λ p. first_below (repeats p.links) (length p.links) ≡ None) l.2 l.0, subst (λ p. first_below (unordered p.tasks p.links) (length p.links) ≡ None) l.2 l.1)
-
--- a decoded record keeps the rules
-pub record_keeps : (bs : List ℕ) (r : Record) → shown r ≡ parts_or (checked bs) → Keeps (plan_of (shown r))
-record_keeps bs r is = by (checked bs) refl
-  where
-    by : (m : Result Parts Fault) → checked bs ≡ m → Keeps (plan_of (shown r))
-    by (Ok q) e =
-        let same : q ≡ shown r = ap parts_or (sym e) ∙ sym is in
-        let ok = checked_ok bs (shown r) (e ∙ ap Ok same) in
-        let t = r.tasks in
-        let full = t.full in
-        let few = t.few in
-        let long = length-take-le t.count t.each (omega arith) in
-        keeps (shown r) (record {
-          read = record {
-            few = omega (arith, long);
-            good = t.good;
-            few_links = omega (arith, links_long r, r.few);
-            links_sound = subst (λ n. good_links n (links_of r) ≡ true) (sym long) r.good;
-          };
-          apart = ok.1;
-          ordered = ok.2;
-        })
-    by (Err f) e =
-        subst (λ p. Keeps (plan_of p)) (ap parts_or (sym e) ∙ sym is)
-        (keeps (record { tasks = []; links = []; names = [] }) (record { read = record { few = omega arith; good = refl; few_links = omega arith; links_sound = refl }; apart = refl; ordered = refl }))
+checked_ok bs q h = grind (arith, common_steps, gets)

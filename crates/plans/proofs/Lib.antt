@@ -8,7 +8,6 @@ pub mod Targets
 pub mod Reading
 pub mod Filled
 pub mod Fields
-pub mod Filling
 pub mod Accepted
 pub mod Bodies
 pub mod Rising

@@ -1,26 +1,26 @@
 -- The names of a record: they lie within it, and are names.
-use Rattle.std.proofs.Common.{◌≡◌, ℕ, zero, suc, ◌+◌, ◌*◌, ◌/◌, ◌%◌, ◌<◌, ◌≤◌, Bool, true, ◌&&◌, eqb, ltb, leb, List, [], ◌∷◌, length, get_or, take, drop, Ok, Err, Result, sym, refl, ap, ◌∙◌, subst, inl, inr, arith}
+use Rattle.std.proofs.Common.{◌≡◌, ℕ, zero, suc, ◌+◌, ◌*◌, ◌/◌, ◌%◌, ◌<◌, ◌≤◌, Bool, true, ◌&&◌, ltb, leb, List, [], ◌∷◌, length, get_or, take, drop, Ok, Err, Result, sym, refl, ap, ◌∙◌, subst, inl, inr, arith}
 use Rattle.std.specs.List.{AllByRecursion}
-use Rattle.std.proofs.lemmas.List.{length-take-le, length-drop, get_or-take, drop_more}
-use Rattle.std.proofs.lemmas.Bool.{cases_Bool, and_from, and_parts, le-leb, leb-true, ltb-false}
+use Rattle.std.proofs.lemmas.List.{length-take-le, length-drop, get_or_read, drop_more}
+use Rattle.std.proofs.lemmas.Bool.{cases_Bool, and_from, and_parts, le-leb, leb-true, ltb-true, ltb-false}
 use Rattle.bits.specs.Bits.{bits, field, spelled}
 use Rattle.bits.proofs.Bits.{length_bits, spelled_byte}
 use Rattle.plans.specs.declared.fault.Fault.{Fault}
 use Rattle.plans.specs.declared.fault.Kind.{Kind}
 use Rattle.plans.specs.declared.fault.Kind.TheVariants as kind
-use Rattle.plans.specs.declared.record.Record.{Record}
 use Rattle.plans.specs.declared.shapes.Letter.{Letter}
 use Rattle.plans.specs.declared.shapes.Name.{Name}
 use Rattle.plans.specs.declared.shapes.Counts.{Counts}
 use Rattle.plans.specs.Reads.{next, unless, give, times, number, number_that}
-use Rattle.plans.specs.Layout.{Parts, letter, name, task, link, to_byte_end, padding, body, counts, ended, parts, fields}
+use Rattle.plans.specs.Layout.{Parts, letter, name, task, link, padding, body, counts, ended, parts, fields}
 use Rattle.plans.specs.Record.{checked}
 use Rattle.plans.specs.Accepted.{inside_all, is_letter, are_letters, good_name, good_names}
-use Rattle.plans.specs.Names.{no_name, name_in, IsName}
-use Rattle.plans.specs.Decoded.{shown}
+use Rattle.plans.specs.Names.{no_name, name_at, name_in, IsName}
 use Rattle.plans.specs.Meaning.{parts_or}
 use Rattle.plans.proofs.Fields.{on_ok_ok, times_ok, times_from}
 use Rattle.plans.proofs.Keeping.{checked_ok}
+use Rattle.std.proofs.lemmas.List.Recursion.{and_at}
+use Rattle.std.proofs.lemmas.Bool.Decides.{nat_tests}
 
 pub ok_is : {A : Type 0} (x y : A) → ◌≡◌ {A = Result A Fault} (Ok x) (Ok y) → x ≡ y
 ok_is x y e = cc
@@ -34,7 +34,7 @@ record Field (bs : List ℕ) (width at : ℕ) (x : ℕ × ℕ) : Type 0 where
 field_read : (bs : List ℕ) (width at : ℕ) (x : ℕ × ℕ) → number bs width at ≡ Ok x → Field bs width at x
 field_read bs width at x e =
     elim (cases_Bool (ltb (length (bits bs)) (at + width))) [
-      | inl t ↦ absurd (let f = rw t at e in let z : ◌≡◌ {A = ℕ} 0 1 = cc in omega arith)
+      | inl t ↦ absurd (let f = rw t at e in cc)
       | inr t ↦
           (let whole = ok_is (spelled (field bs at width), at + width) x (rw t at e) in
           let ends : at + width ≡ x.1 = ap (λ q. q.1) whole in
@@ -48,16 +48,12 @@ that_read bs width test k at x h =
     let is = field_read bs width at a.0 a.1 in
     elim (cases_Bool (test a.0.0)) [
       | inl t ↦ (let whole = ok_is (a.0.0, a.0.1) x (rw t at a.2) in subst (λ q. (test q.0 ≡ true) × Field bs width at q) whole (t, is))
-      | inr t ↦ absurd (let f = rw t at a.2 in let z : ◌≡◌ {A = ℕ} 0 1 = cc in omega arith)
+      | inr t ↦ absurd (let f = rw t at a.2 in cc)
     ]
 
 -- the names begin with a byte
 padding_ends : (bs : List ℕ) (at : ℕ) (x : Unit {0} × ℕ) → padding bs at ≡ Ok x → x.1 % 8 ≡ 0
-padding_ends bs at x h =
-    let a = on_ok_ok (number_that bs (to_byte_end at) (λ n. eqb n 0) kind.Text at) _ x h in
-    let same : a.0.1 ≡ x.1 = ap (λ q. q.1) (ok_is (tt, a.0.1) x a.2) in
-    let ends = (that_read bs (to_byte_end at) (λ n. eqb n 0) kind.Text at a.0 a.1).1.ends in
-    omega (arith, same, ends)
+padding_ends bs at x h = grind (arith, nat_tests)
 
 -- the numbers of a row are bytes
 abbrev pub Narrow : List ℕ → Type 0
@@ -170,9 +166,7 @@ name_is bs x h =
     (inside, record { some = omega (arith, long); short = omega (arith, long); letters = letters_are (take x.length (drop x.at bs)) c.1 })
 
 pub name_at_lem : (bs : List ℕ) (xs : List Name) (t : ℕ) → good_names bs xs ≡ true → t < length xs → ((get_or xs t no_name).at + (get_or xs t no_name).length ≤ length bs) × IsName (name_in bs xs t)
-name_at_lem bs [] t h l = absurd (omega arith)
-name_at_lem bs (x ∷ xs) zero h l = name_is bs x (and_parts (good_name bs x) (good_names bs xs) h).0
-name_at_lem bs (x ∷ xs) (suc t) h l = name_at_lem bs xs t (and_parts (good_name bs x) (good_names bs xs) h).1 (omega arith)
+name_at_lem bs xs t h l = name_is bs (get_or xs t no_name) (and_at (good_names bs) (good_name bs) refl (λ _ _. refl) xs t no_name l h)
 
 -- good names lie within the bytes
 pub inside_good : (bs : List ℕ) (xs : List Name) → good_names bs xs ≡ true → inside_all (length bs) xs ≡ true
@@ -182,16 +176,25 @@ inside_good bs (x ∷ xs) h =
     let one = and_parts (leb (x.at + x.length) (length bs)) _ all.0 in
     and_from (leb (x.at + x.length) (length bs)) (inside_all (length bs) xs) one.0 (inside_good bs xs all.1)
 
--- the name of a known task in a record
-module _ (r : Record) (t : ℕ) (h : t < r.tasks.count) where
-  pub names_long : length (shown r).names ≡ r.tasks.count
-  names_long = length-take-le r.tasks.count r.names (let few = r.tasks.few in let named = r.named in omega arith)
+-- a good name among others, and what is known of it
+pub record Known (bs : List ℕ) (xs : List Name) (t : ℕ) (x : Name) : Type 0 where
+  pub below : t < length xs
+  pub is : name_at xs t ≡ x
+  pub inside : x.at + x.length ≤ length bs
+  pub long : length (take x.length (drop x.at bs)) ≡ x.length
+  pub formed : IsName (take x.length (drop x.at bs))
 
-  pub name_here : get_or r.names t no_name ≡ get_or (shown r).names t no_name
-  name_here = sym (get_or-take r.tasks.count r.names t no_name h)
-
-  pub name_known : (bs : List ℕ) → good_names bs (shown r).names ≡ true
-      → ((get_or r.names t no_name).at + (get_or r.names t no_name).length ≤ length bs) × IsName (name_in bs (shown r).names t)
-  name_known bs good =
-      let known = name_at_lem bs (shown r).names t good (omega (arith, names_long)) in
-      (subst (λ x. x.at + x.length ≤ length bs) (sym name_here) known.0, known.1)
+pub known : (bs : List ℕ) (xs ys : List Name) (t : ℕ) (x : Name) → good_names bs xs ≡ true → ys ≡ xs → true ≡ ltb t (length ys) → x ≡ get_or ys t x → Known bs xs t x
+known bs xs ys t x good same test here =
+    let low = ltb-true t (length ys) (sym test) in
+    let below : t < length xs = subst (λ us. t < length us) same low in
+    let is : name_at xs t ≡ x = ap (λ us. get_or us t no_name) (sym same) ∙ sym (get_or_read ys t x low here no_name) in
+    let named = name_at_lem bs xs t good below in
+    let inside = subst (λ y. y.at + y.length ≤ length bs) is named.0 in
+    record {
+      below = below;
+      is = is;
+      inside = inside;
+      long = length-take-le x.length (drop x.at bs) (omega (arith, inside, length-drop x.at bs));
+      formed = subst (λ y. IsName (take y.length (drop y.at bs))) is named.1;
+    }

@@ -1,17 +1,9 @@
 -- The test of a link's order decides the rule.
-use Rattle.std.proofs.Common.{◌≡◌, ℕ, zero, suc, ◌-◌, ◌<◌, ◌≤◌, true, leb, List, [], ◌∷◌, length, Some, None, Decides, Option, sym, refl, ⊎_elim, arith}
+use Rattle.std.proofs.Common.{◌≡◌, ℕ, zero, suc, ◌-◌, ◌<◌, ◌≤◌, true, leb, List, [], ◌∷◌, length, Some, None, Decides, Option, refl, ⊎_elim, arith}
 use Rattle.std.specs.List.{slice_get}
 use Rattle.std.proofs.lemmas.Bool.{and_from, and_parts, le-leb, leb-true, cases_lt, false≢true}
 use Rattle.plans.specs.Order.{all_none, rising, Ordered}
-
-none_some : {A : Type 0} (x : A) → None ≡ Some x → ⊥
-none_some x e = let z : ◌≡◌ {A = ℕ} 0 1 = cc in omega arith
-
-some_none : {A : Type 0} (x : A) → ◌≡◌ {A = Option (Option A)} (Some (Some x)) (Some None) → ⊥
-some_none x e = let z : ◌≡◌ {A = ℕ} 0 1 = cc in omega arith
-
-some_is : (a p : ℕ) → ◌≡◌ {A = Option (Option ℕ)} (Some (Some a)) (Some (Some p)) → a ≡ p
-some_is a p e = cc
+use Rattle.std.proofs.lemmas.Option.{none-some}
 
 -- no target is earlier than a place
 abbrev AtLeast : ℕ → List (Option ℕ) → Type 0
@@ -26,18 +18,18 @@ all_none_lem (Some a ∷ os) h i l = absurd (false≢true h)
 none_all : (os : List (Option ℕ)) → ((i : ℕ) → i < length os → slice_get os i ≡ Some None) → all_none os ≡ true
 none_all [] h = refl
 none_all (None ∷ os) h = none_all os (λ i l. h (suc i) (omega arith))
-none_all (Some a ∷ os) h = absurd (some_none a (h 0 (omega arith)))
+none_all (Some a ∷ os) h = (let e = h 0 (omega arith) in cc)
 
 no_target : (os : List (Option ℕ)) → all_none os ≡ true → (i p : ℕ) → slice_get os i ≡ Some (Some p) → ⊥
-no_target [] h i p e = none_some (Some p) e
-no_target (None ∷ os) h zero p e = some_none p (sym e)
+no_target [] h i p e = none-some (Some p) e
+no_target (None ∷ os) h zero p e = cc
 no_target (None ∷ os) h (suc i) p e = no_target os h i p e
 no_target (Some a ∷ os) h i p e = false≢true h
 
 tested : (least : ℕ) (os : List (Option ℕ)) → rising least os ≡ true → Ordered os × AtLeast least os
 tested least [] h = (
-  record { d = 0; first = λ i l. absurd (omega arith); after = λ i l m. absurd (omega arith); keeps = λ i j p q l e f. absurd (none_some (Some p) e) },
-  λ i p e. absurd (none_some (Some p) e),
+  record { d = 0; first = λ i l. absurd (omega arith); after = λ i l m. absurd (omega arith); keeps = λ i j p q l e f. absurd (none-some (Some p) e) },
+  λ i p e. absurd (none-some (Some p) e),
 )
 tested least (None ∷ os) h = (
   record { d = 0; first = λ i l. absurd (omega arith); after = λ i l m. all_none_lem (None ∷ os) h i m; keeps = λ i j p q l e f. absurd (no_target (None ∷ os) h i p e) },
@@ -59,19 +51,19 @@ tested least (Some a ∷ os) h =
     after o (suc i) l m = o.after i (omega arith) (omega arith)
 
     keeps : (o : Ordered os) → AtLeast a os → (i j p q : ℕ) → i ≤ j → slice_get (Some a ∷ os) i ≡ Some (Some p) → slice_get (Some a ∷ os) j ≡ Some (Some q) → p ≤ q
-    keeps o ls zero zero p q l e f = omega (arith, some_is a p e, some_is a q f)
-    keeps o ls zero (suc j) p q l e f = omega (arith, some_is a p e, ls j q f)
+    keeps o ls zero zero p q l e f = grind arith
+    keeps o ls zero (suc j) p q l e f = grind (arith, ls j q f)
     keeps o ls (suc i) zero p q l e f = absurd (omega arith)
     keeps o ls (suc i) (suc j) p q l e f = o.keeps i j p q (omega arith) e f
 
     least_of : least ≤ a → AtLeast a os → AtLeast least (Some a ∷ os)
-    least_of up ls zero p e = omega (arith, some_is a p e)
+    least_of up ls zero p e = grind arith
     least_of up ls (suc i) p e = omega (arith, ls i p e)
 
 passes : (least : ℕ) (os : List (Option ℕ)) → Ordered os → AtLeast least os → rising least os ≡ true
 passes least [] o ls = refl
 passes least (None ∷ os) o ls =
-    ⊎_elim (λ some. let f = o.first 0 some in absurd (some_none f.0 (sym f.1)))
+    ⊎_elim (λ some. let f = o.first 0 some in (let e = f.1 in cc))
     (λ none. none_all os (λ i l. o.after (suc i) (omega arith) (omega arith)))
     (cases_lt 0 o.d)
 passes least (Some a ∷ os) o ls =

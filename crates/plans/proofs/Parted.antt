@@ -16,4 +16,4 @@ pub record Parted (q : Parts) (d : Description) : Type 0 where
 
 -- no link goes from a task to the same task
 abbrev pub Apart : Description → Type 0
-Apart d = AllByRecursion (λ l. l.ends.from ≡ l.ends.to → ⊥) d.links
+Apart d = AllByRecursion (λ l. l.ends.from.task ≡ l.ends.to.task → ⊥) d.links

@@ -1,23 +1,25 @@
 -- Each part of a record, forth from its writing: a part with its limits is read where its writing stands.
-use Rattle.std.proofs.Common.{◌≡◌, ℕ, zero, suc, ◌+◌, ◌-◌, ◌/◌, ◌<◌, ◌≤◌, Bool, true, cond, not, ◌&&◌, ◌||◌, eqb, ltb, leb, ◌⊎◌, List, [], ◌∷◌, ◌++◌, length, get_or, Ok, sym, refl, ap, ◌∙◌, subst, inl, inr, arith}
+use Rattle.std.proofs.Common.{◌≡◌, ℕ, zero, suc, ◌+◌, ◌-◌, ◌/◌, ◌<◌, ◌≤◌, Bool, true, cond, ◌&&◌, ◌||◌, eqb, ltb, leb, List, [], ◌∷◌, ◌++◌, length, get_or, Some, None, IfSome, Option, Ok, sym, refl, ap, ◌∙◌, subst, arith}
 use Rattle.std.specs.List.{flat_map, AllByRecursion}
-use Rattle.std.proofs.lemmas.Bool.{le-leb, lt-ltb, eq-eqb, ne_eqb, and_from, or_left, or_right, not_from_false}
+use Rattle.std.proofs.lemmas.Bool.{le-leb, lt-ltb, and_from, or_left, or_right}
 use Rattle.bits.specs.Bits.{bits, digits}
+use Rattle.plans.specs.declared.ends.EventType.{EventType}
 use Rattle.plans.specs.declared.fault.Kind.{Kind}
 use Rattle.plans.specs.declared.fault.Kind.TheVariants as kind
 use Rattle.plans.specs.declared.ends.Ends.{Ends}
 use Rattle.plans.specs.declared.shapes.Params.{Params}
 use Rattle.plans.specs.Reads.{Read, unless, times, number, number_that}
-use Rattle.plans.specs.Layout.{param, filled, filled_by, no_rule, task, rule, ends, task_of, join, link, letter, name}
+use Rattle.plans.specs.Layout.{param, filled, filled_by, no_rule, task, pick_of, rule, ends, task_of, join, link, letter, name, event_type}
 use Rattle.plans.specs.Words.{count, most_words}
-use Rattle.plans.specs.Description.{Task, Description, param_bits, task_bits, rule_bits, ends_bits, link_bits, name_bits, complement, side_bit, Range, TaskLimits, RuleLimits, task_at}
+use Rattle.plans.specs.Description.{Task, Description, param_bits, task_bits, rule_bits, ends_bits, link_bits, name_bits, complement, pick_number, side_bit, Range, TaskLimits, RuleLimits, task_at, event_type_bits}
 use Rattle.plans.proofs.Parted.{shaped}
 use Rattle.plans.proofs.Fields.{count_filled}
-use Rattle.plans.proofs.Codes.{flag_of, flag_small, side_of_lem, side_small, twos_complement, complement_small}
+use Rattle.plans.proofs.Codes.{flag_of, flag_small, side_of_lem, side_small, pick_of_number, pick_small, pick_few, twos_complement, complement_small}
 use Rattle.plans.proofs.Spelling.{Spells, spells_first, spells_rest, on_ok_from, number_forth, number_that_forth}
 use Rattle.plans.proofs.Rows.{Forth, times_forth}
 use Rattle.plans.proofs.Rereading.{itself, same_rows}
 use Rattle.plans.proofs.Rejoining.{link_seen, link_read, LinkGood, Alike, LetterLimits, unseen}
+use Rattle.std.proofs.lemmas.Bool.Decides.{nat_tests}
 
 pub unless_from : (test : Bool) (k : Kind) (begin at : ℕ) → test ≡ true → unless test k begin at ≡ Ok (tt, at)
 unless_from test k begin at t = ap (λ b. unless b k begin at) t
@@ -75,18 +77,15 @@ task_forth bs at end t good sp =
       refl,
     )
 
-pick_passes : (pick sources : ℕ) → (pick < sources) ⊎ (pick ≡ 4) → (ltb pick sources || eqb pick 4) ≡ true
-pick_passes pick sources (inl h) = or_left (ltb pick sources) (eqb pick 4) (lt-ltb pick sources h)
-pick_passes pick sources (inr h) = or_right (ltb pick sources) (eqb pick 4) (eq-eqb pick 4 h)
-
-pub pick_small : (pick sources : ℕ) → sources ≤ 4 → (pick < sources) ⊎ (pick ≡ 4) → pick < 8
-pick_small pick sources few (inl h) = omega arith
-pick_small pick sources few (inr h) = omega arith
+pick_passes : (o : Option ℕ) (sources : ℕ) → IfSome o (λ n. n < sources) → (ltb (pick_number o) sources || eqb (pick_number o) 4) ≡ true
+pick_passes None sources h = or_right (ltb 4 sources) true refl
+pick_passes (Some n) sources h = or_left (ltb n sources) (eqb n 4) (lt-ltb n sources h)
 
 rule_forth : (bs : List ℕ) (sources : ℕ) → sources ≤ 4 → Forth (bits bs) (rule bs sources) rule_bits (RuleLimits sources) itself itself
 rule_forth bs sources few at end r good sp =
     let s = bits bs in
-    let pick = r.pick in
+    let pick = pick_number r.pick in
+    let picks = pick_few r.pick sources few good.picks in
     let n = complement 9 r.add in
     let divisor = r.divisor in
     let A = digits 3 pick in
@@ -98,48 +97,43 @@ rule_forth bs sources few at end r good sp =
     let some = good.divides in
     let most = good.divisor in
     let test = λ (pick : ℕ). ltb pick sources || eqb pick 4 in
-    let a = number_that_forth bs 3 at m pick (omega arith) (pick_small pick sources few good.picks) (spells_first s A (B ++ C) at end sp) test kind.Rule (pick_passes pick sources good.picks) in
+    let a = number_that_forth bs 3 at m pick (omega arith) (pick_small r.pick picks) (spells_first s A (B ++ C) at end sp) test kind.Rule (pick_passes r.pick sources good.picks) in
     let b = number_forth bs 9 m k n (omega arith) (complement_small r.add good.low good.high) (spells_first s B C m end rest) in
     let c = number_that_forth bs 4 k end divisor (omega arith) (omega arith) (spells_rest s B C m end rest) (λ divisor. ltb 0 divisor) kind.Rule (lt-ltb 0 divisor some) in (
       r,
       on_ok_from (number_that bs 3 test kind.Rule at) _ (pick, m) _ a
           (on_ok_from (number bs 9 m) _ (n, k) _ b
           (on_ok_from (number_that bs 4 (λ divisor. ltb 0 divisor) kind.Rule k) _ (divisor, end) _ c
-          (ap (λ z. Ok (record { pick = pick; add = z; divisor = divisor }, end)) (twos_complement r.add good.low good.high)))),
+          (ap (λ z. Ok (record { pick = pick_of pick; add = z; divisor = divisor }, end)) (twos_complement r.add good.low good.high)
+          ∙ ap (λ o. Ok (record { pick = o; add = r.add; divisor = divisor }, end)) (pick_of_number r.pick picks)))),
       refl,
     )
 
-ends_forth : (bs : List ℕ) (at end : ℕ) (e : Ends) → e.from < 32 → e.to < 32 → Spells (bits bs) at (ends_bits e) end → ends bs at ≡ Ok (e, end)
+event_type_forth : (bs : List ℕ) (at end : ℕ) (e : EventType) → e.task < 32 → Spells (bits bs) at (event_type_bits e) end → event_type bs at ≡ Ok (e, end)
+event_type_forth bs at end e task sp =
+    let s = bits bs in
+    let u = side_bit e.side in
+    let A = digits 5 e.task in
+    let B = digits 1 u in
+    let i = at + length A in
+    let a = number_forth bs 5 at i e.task (omega arith) task (spells_first s A B at end sp) in
+    let b = number_forth bs 1 i end u (omega arith) (side_small e.side) (spells_rest s A B at end sp) in
+    let x = side_of_lem e.side in
+    on_ok_from (number bs 5 at) _ (e.task, i) _ a
+    (on_ok_from (number bs 1 i) _ (u, end) _ b (λ i. Ok (record { task = e.task; side = x i }, end)))
+
+ends_forth : (bs : List ℕ) (at end : ℕ) (e : Ends) → e.from.task < 32 → e.to.task < 32 → Spells (bits bs) at (ends_bits e) end → ends bs at ≡ Ok (e, end)
 ends_forth bs at end e from to sp =
     let s = bits bs in
-    let u = side_bit e.from_side in
-    let v = side_bit e.to_side in
-    let A = digits 5 e.from in
-    let B = digits 1 u in
-    let C = digits 5 e.to in
-    let D = digits 1 v in
+    let A = event_type_bits e.from in
+    let B = event_type_bits e.to in
     let i = at + length A in
-    let j = i + length B in
-    let k = j + length C in
-    let r1 = spells_rest s A (B ++ (C ++ D)) at end sp in
-    let r2 = spells_rest s B (C ++ D) i end r1 in
-    let a = number_forth bs 5 at i e.from (omega arith) from (spells_first s A (B ++ (C ++ D)) at end sp) in
-    let b = number_forth bs 1 i j u (omega arith) (side_small e.from_side) (spells_first s B (C ++ D) i end r1) in
-    let c = number_forth bs 5 j k e.to (omega arith) to (spells_first s C D j end r2) in
-    let d = number_forth bs 1 k end v (omega arith) (side_small e.to_side) (spells_rest s C D j end r2) in
-    let x = side_of_lem e.from_side in
-    let y = side_of_lem e.to_side in
-    on_ok_from (number bs 5 at) _ (e.from, i) _ a
-    (on_ok_from (number bs 1 i) _ (u, j) _ b
-    (on_ok_from (number bs 5 j) _ (e.to, k) _ c
-    (on_ok_from (number bs 1 k) _ (v, end) _ d
-    (λ i. Ok (record { from = e.from; from_side = x i; to = e.to; to_side = y i }, end)))))
+    let a = event_type_forth bs at i e.from from (spells_first s A B at end sp) in
+    let b = event_type_forth bs i end e.to to (spells_rest s A B at end sp) in
+    on_ok_from (event_type bs at) _ (e.from, i) _ a (on_ok_from (event_type bs i) _ (e.to, end) _ b refl)
 
-join_from : (n : ℕ) (e : Ends) → e.from < n → e.to < n → (e.from ≡ e.to → ⊥) → join n e ≡ true
-join_from n e from to apart =
-    and_from (ltb e.from n && ltb e.to n) (not (eqb e.from e.to))
-    (and_from (ltb e.from n) (ltb e.to n) (lt-ltb e.from n from) (lt-ltb e.to n to))
-    (not_from_false (eqb e.from e.to) (ne_eqb e.from e.to apart))
+join_from : (n : ℕ) (e : Ends) → e.from.task < n → e.to.task < n → (e.from.task ≡ e.to.task → ⊥) → join n e ≡ true
+join_from n e from to apart = grind (arith, nat_tests)
 
 -- a task has at most four parameters
 pub params_few : (us : List Task) → AllByRecursion TaskLimits us → (t : ℕ) → length (get_or us t (record { params = []; name = [] })).params ≤ 4
@@ -157,16 +151,16 @@ link_forth bs tasks d alike few short at end l good sp =
     let B = flat_map rule_bits rs in
     let m = at + length A in
     let g = good.0 in
-    let n = (task_of tasks e.to).used in
-    let sources = (task_of tasks e.from).used in
+    let n = (task_of tasks e.to.task).used in
+    let sources = (task_of tasks e.from.task).used in
     let long = alike.long in
     let from = g.from_known in
     let to = g.to_known in
     let a = ends_forth bs at m e (omega arith) (omega arith) (spells_first s A B at end sp) in
     let b = unless_from (join (length tasks) e) kind.Ends at m (join_from (length tasks) e (omega arith) (omega arith) good.1) in
-    let ruled : length rs ≡ n = g.ruled ∙ sym (alike.used e.to) in
-    let rules = subst (λ k. AllByRecursion (RuleLimits k) rs) (sym (alike.used e.from)) g.rules in
-    let most : sources ≤ 4 = omega (arith, alike.used e.from, short e.from) in
+    let ruled : length rs ≡ n = g.ruled ∙ sym (alike.used e.to.task) in
+    let rules = subst (λ k. AllByRecursion (RuleLimits k) rs) (sym (alike.used e.from.task)) g.rules in
+    let most : sources ≤ 4 = omega (arith, alike.used e.from.task, short e.from.task) in
     let c = rows_forth s (rule bs sources) rule_bits (RuleLimits sources) (rule_forth bs sources most) m end rs rules (spells_rest s A B at end sp) in
     let c' = subst (λ k. times k (rule bs sources) m ≡ Ok (rs, end)) ruled c in (
       record { ends = e; rules = filled_by no_rule rs; begins = at },

@@ -1,43 +1,34 @@
 -- A record whose fields are in order passes the late checks where its plan keeps the rules of plans.
-use Rattle.std.proofs.Common.{◌≡◌, ℕ, zero, suc, ◌<◌, ◌≤◌, Bool, true, not, ◌&&◌, eqb, leb, List, [], ◌∷◌, length, get_or, is_some, Some, None, Ok, Option, sym, refl, ap, ◌∙◌, subst, inl, inr, arith}
+use Rattle.std.proofs.Common.{◌≡◌, ℕ, zero, suc, ◌<◌, ◌≤◌, Bool, not, List, [], ◌∷◌, length, get_or, Some, None, Ok, Err, Option, Result, sym, refl, ap, ◌∙◌, subst, inl, inr, arith}
 use Rattle.std.specs.Option.{option_map}
 use Rattle.std.specs.List.{slice_get}
-use Rattle.std.proofs.lemmas.Option.{slice_get-get_or}
-use Rattle.std.proofs.lemmas.Bool.{cases_Bool, and_parts, leb-true, false≢true}
+use Rattle.std.proofs.lemmas.Option.{slice_get-get_or, slice_get-map, slice_get_within, same_Some}
+use Rattle.std.proofs.lemmas.Bool.{cases_Bool}
+use Rattle.plans.specs.declared.fault.Fault.{Fault}
 use Rattle.plans.specs.declared.fault.Kind.TheVariants as kind
 use Rattle.plans.specs.declared.shapes.Counts.{Counts}
 use Rattle.plans.specs.Lists.{place_in}
 use Rattle.plans.specs.Words.{words}
 use Rattle.plans.specs.Targets.{target_at}
-use Rattle.plans.specs.Reads.{times, number_that}
+use Rattle.plans.specs.Reads.{times}
 use Rattle.plans.specs.Layout.{Parts, task_of, task, link, padding, name, counts, body, ended, parts, fields}
 use Rattle.plans.specs.Order.{Ordered, place_of_target, places_of}
-use Rattle.plans.specs.Record.{link_at, same_ends, first_below, repeats, unordered, or_fault, late}
+use Rattle.plans.specs.Record.{link_at, same_ends, first_below, repeats, unordered, or_fault, late, checked}
 use Rattle.plans.specs.Plan.{Keeps, KeepsLink, place_of}
-use Rattle.plans.specs.Meaning.{plan_link, plan_of}
-use Rattle.plans.proofs.Fields.{on_ok_ok, number_that_ok}
-use Rattle.plans.proofs.Places.{nth_map, nth_within, mapped_some}
-use Rattle.plans.proofs.Mixed.{and_then_some}
+use Rattle.plans.specs.Meaning.{plan_link, plan_of, parts_or}
+use Rattle.plans.proofs.Fields.{on_ok_ok}
 use Rattle.plans.proofs.Accepted.{tasks_good, links_good, good_link_at}
 use Rattle.plans.proofs.First.{first_none, first_is}
 use Rattle.plans.proofs.Held.{join_parts, ends_is}
-use Rattle.plans.proofs.Keeping.{ReadFacts, words_in, link_in, placed}
+use Rattle.plans.proofs.Keeping.{ReadFacts, words_in, link_in, placed, keeps, checked_ok}
 use Rattle.plans.proofs.Naming.{ok_is}
 use Rattle.plans.proofs.Ordering.{order_is_tested}
-use Rattle.plans.proofs.Walking.{some_eq}
+use Rattle.plans.proofs.Places.{option_map_some, and_then_some, some_from_is_some}
+use Rattle.std.proofs.lemmas.Bool.Decides.{nat_tests}
 
 -- what fields in order have shown
 counts_few : (bs : List ℕ) (at : ℕ) (x : Counts × ℕ) → counts bs at ≡ Ok x → (x.0.tasks ≤ 32) × (x.0.links ≤ 64)
-counts_few bs at x h =
-    let a = on_ok_ok (number_that bs 4 (λ n. eqb n 1) kind.Form at) _ x h in
-    let b = on_ok_ok (number_that bs 6 (λ n. leb 1 n && leb n 32) kind.Counts a.0.1) _ x a.2 in
-    let c = on_ok_ok (number_that bs 7 (λ n. leb n 64) kind.Counts b.0.1) _ x b.2 in
-    let whole = ok_is (record { tasks = b.0.0; links = c.0.0 }, c.0.1) x c.2 in
-    let tb = number_that_ok bs 6 (λ n. leb 1 n && leb n 32) kind.Counts a.0.1 b.0 b.1 in
-    let lb = number_that_ok bs 7 (λ n. leb n 64) kind.Counts b.0.1 c.0 c.1 in (
-      subst (λ q. q.0.tasks ≤ 32) whole (leb-true b.0.0 32 (and_parts (leb 1 b.0.0) (leb b.0.0 32) tb.0).1),
-      subst (λ q. q.0.links ≤ 64) whole (leb-true c.0.0 64 lb.0),
-    )
+counts_few bs at x h = grind (arith, nat_tests)
 
 body_facts : (bs : List ℕ) (n : Counts) (at : ℕ) (x : Parts × ℕ) → n.tasks ≤ 32 → n.links ≤ 64 → body bs n at ≡ Ok x → ReadFacts x.0
 body_facts bs n at x few fewl h =
@@ -76,8 +67,8 @@ lead_first (Some p ∷ os) (suc i) h = lead_first os i (omega arith)
 
 lead_end : (os : List (Option ℕ)) (p : ℕ) → slice_get os (lead os) ≡ Some (Some p) → ⊥
 unfolding lead
-lead_end [] p e = let z : ◌≡◌ {A = ℕ} 0 1 = cc in omega arith
-lead_end (None ∷ os) p e = let z : ◌≡◌ {A = ℕ} 0 1 = cc in omega arith
+lead_end [] p e = cc
+lead_end (None ∷ os) p e = cc
 lead_end (Some a ∷ os) p e = lead_end os p e
 
 -- where each earlier place has a target that is not later, the targets are in order
@@ -92,13 +83,8 @@ module _ (os : List (Option ℕ)) (earlier : (i j b : ℕ) → i ≤ j → slice
         d = lead os;
         first = lead_first os;
         after = λ i le h. none_after i (get_or os i None) le (slice_get-get_or os i None h);
-        keeps = λ i j p q le e f. (let a = earlier i j q le f in let same = some_eq p a.0 (some_eq (Some p) (Some a.0) (sym e ∙ a.1)) in omega (arith, same, a.2));
+        keeps = λ i j p q le e f. (let a = earlier i j q le f in let same = same_Some p a.0 (same_Some (Some p) (Some a.0) (sym e ∙ a.1)) in omega (arith, same, a.2));
       }
-
--- an option that is there
-some_from : {A : Type 0} (o : Option A) → is_some o ≡ true → (x : A) × (o ≡ Some x)
-some_from None h = absurd (false≢true h)
-some_from (Some x) h = (x, refl)
 
 module _ (q : Parts) (r : ReadFacts q) (k : Keeps (plan_of q)) where
   none_repeats : first_below (repeats q.links) (length q.links) ≡ None
@@ -107,7 +93,7 @@ module _ (q : Parts) (r : ReadFacts q) (k : Keeps (plan_of q)) where
       elim (cases_Bool (repeats q.links m)) [
         | inl t ↦ (
             let test : ℕ → Bool = λ i. same_ends (link_at q.links i).ends (link_at q.links m).ends in
-            let f = some_from (first_below test m) t in
+            let f = some_from_is_some (first_below test m) t in
             let g = first_is test m f.0 f.1 in
             let same = ends_is (link_at q.links f.0).ends (link_at q.links m).ends g.1 in
             let one = k.ends_differ f.0 m _ _ (link_in q r f.0 (omega (arith, g.0))) (link_in q r m h) same in
@@ -121,37 +107,37 @@ module _ (q : Parts) (r : ReadFacts q) (k : Keeps (plan_of q)) where
 
     -- a place is that of a target
     target_at_lem : (i b : ℕ) → slice_get (places_of q.tasks (link_at q.links j)) i ≡ Some (Some b)
-        → (z : ℕ) × (slice_get (plan_link q.tasks (link_at q.links j)).targets i ≡ Some (Some z)) × (place_in (words (task_of q.tasks (link_at q.links j).ends.to).each) z ≡ Some b)
+        → (z : ℕ) × (slice_get (plan_link q.tasks (link_at q.links j)).targets i ≡ Some (Some z)) × (place_in (words (task_of q.tasks (link_at q.links j).ends.to.task).each) z ≡ Some b)
     target_at_lem i b e =
         let l = link_at q.links j in
-        let from = (task_of q.tasks l.ends.from).each in
-        let to = (task_of q.tasks l.ends.to).each in
-        let m = mapped_some (place_of_target from to l.rules) (slice_get (words from) i) (Some b) (sym (nth_map (place_of_target from to l.rules) (words from) i) ∙ e) in
+        let from = (task_of q.tasks l.ends.from.task).each in
+        let to = (task_of q.tasks l.ends.to.task).each in
+        let m = option_map_some (place_of_target from to l.rules) (slice_get (words from) i) (Some b) (sym (slice_get-map (place_of_target from to l.rules) (words from) i) ∙ e) in
         let t = and_then_some (target_at from to l.rules m.0) (place_in (words to)) b m.2 in
-        (t.0, nth_map (target_at from to l.rules) (words from) i ∙ ap (option_map (target_at from to l.rules)) m.1 ∙ ap Some t.1, t.2)
+        (t.0, slice_get-map (target_at from to l.rules) (words from) i ∙ ap (option_map (target_at from to l.rules)) m.1 ∙ ap Some t.1, t.2)
 
     earlier : (i n b : ℕ) → i ≤ n → slice_get (places_of q.tasks (link_at q.links j)) n ≡ Some (Some b)
         → (a : ℕ) × (slice_get (places_of q.tasks (link_at q.links j)) i ≡ Some (Some a)) × (a ≤ b)
     earlier i n b le e =
         let l = link_at q.links j in
-        let from = (task_of q.tasks l.ends.from).each in
-        let to = (task_of q.tasks l.ends.to).each in
+        let from = (task_of q.tasks l.ends.from.task).each in
+        let to = (task_of q.tasks l.ends.to.task).each in
         let ts = (plan_link q.tasks l).targets in
         let ends = join_parts (length q.tasks) l.ends (good_link_at (length q.tasks) q.links j _ r.links_sound h).joins in
-        let there = words_in q.tasks l.ends.to ends.1 in
+        let there = words_in q.tasks l.ends.to.task ends.1 in
         let at = target_at_lem n b e in
-        let room = nth_within ts n (Some at.0) at.1 in
+        let room = slice_get_within ts n (Some at.0) at.1 in
         by (get_or ts i None) (slice_get-get_or ts i None (omega arith)) at (ap place_in there)
       where
-        by : (o : Option ℕ) → slice_get (plan_link q.tasks (link_at q.links j)).targets i ≡ Some o → ((z : ℕ) × (slice_get (plan_link q.tasks (link_at q.links j)).targets n ≡ Some (Some z)) × (place_in (words (task_of q.tasks (link_at q.links j).ends.to).each) z ≡ Some b))
-            → place_of (plan_of q) (link_at q.links j).ends.to ≡ place_in (words (task_of q.tasks (link_at q.links j).ends.to).each)
+        by : (o : Option ℕ) → slice_get (plan_link q.tasks (link_at q.links j)).targets i ≡ Some o → ((z : ℕ) × (slice_get (plan_link q.tasks (link_at q.links j)).targets n ≡ Some (Some z)) × (place_in (words (task_of q.tasks (link_at q.links j).ends.to.task).each) z ≡ Some b))
+            → place_of (plan_of q) (link_at q.links j).ends.to.task ≡ place_in (words (task_of q.tasks (link_at q.links j).ends.to.task).each)
             → (a : ℕ) × (slice_get (places_of q.tasks (link_at q.links j)) i ≡ Some (Some a)) × (a ≤ b)
         by None is at there = absurd (keeps_link.first_ones i n at.0 le is at.1)
         by (Some v) is at there =
             let l = link_at q.links j in
-            let from = (task_of q.tasks l.ends.from).each in
-            let to = (task_of q.tasks l.ends.to).each in
-            let lands = some_from (place_of (plan_of q) l.ends.to v) (keeps_link.lands i v is) in
+            let from = (task_of q.tasks l.ends.from.task).each in
+            let to = (task_of q.tasks l.ends.to.task).each in
+            let lands = some_from_is_some (place_of (plan_of q) l.ends.to.task v) (keeps_link.lands i v is) in
             let place = ap (λ f. f v) (sym there) ∙ lands.1 in (
               lands.0,
               placed from to l.rules i v lands.0 is place,
@@ -167,3 +153,12 @@ module _ (q : Parts) (r : ReadFacts q) (k : Keeps (plan_of q)) where
   passes =
       ap (λ o. or_fault kind.Repeated q.links o (or_fault kind.Order q.links (first_below (unordered q.tasks q.links) (length q.links)) (Ok q))) none_repeats
       ∙ ap (λ o. or_fault kind.Order q.links o (Ok q)) none_unordered
+
+-- the parts that any bytes are taken to have mean a plan that keeps the rules
+pub keeps_checked : (bs : List ℕ) → Keeps (plan_of (parts_or (checked bs)))
+keeps_checked bs = by (checked bs) refl
+  where
+    by : (m : Result Parts Fault) → checked bs ≡ m → Keeps (plan_of (parts_or m))
+    by (Ok q) e = let ok = checked_ok bs q e in keeps q (record { read = read_facts bs q ok.0; apart = ok.1; ordered = ok.2 })
+    by (Err f) e =
+        keeps (record { tasks = []; links = []; names = [] }) (record { read = record { few = omega arith; good = refl; few_links = omega arith; links_sound = refl }; apart = refl; ordered = refl })

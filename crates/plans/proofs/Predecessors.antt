@@ -1,34 +1,28 @@
 -- What an event of a plan rests on are its immediate predecessors in the order that the plan describes.
-use Rattle.std.proofs.Common.{◌≡◌, ℕ, ◌+◌, [], ◌∷◌, Some, None, Option, sym, refl, ap, ◌∙◌, subst}
+use Rattle.std.proofs.Common.{◌≡◌, ℕ, ◌+◌, [], ◌∷◌, Some, sym, refl, ap, ◌∙◌, subst}
+use Rattle.std.proofs.lemmas.Option.{slice_get_within, same_Some}
 use Rattle.std.specs.Option.{option_map, option_flatten}
 use Rattle.std.specs.List.{slice_get}
+use Rattle.plans.specs.declared.ends.Ends.{Ends}
 use Rattle.plans.specs.declared.ends.Side.TheVariants.{Start, Finish}
 use Rattle.plans.specs.declared.event.Event.{Event}
 use Rattle.plans.specs.Lists.{and_then}
 use Rattle.plans.specs.Plan.{Plan, Keeps, task_count, link_count, words_of, word_at, place_of, next_word, gives}
 use Rattle.plans.specs.Events.{OfPlan, between, Rests, own_start, one_earlier, by_link}
 use Rattle.plans.specs.Ppo.{Precedes}
-use Rattle.plans.specs.Orders.{Edge, turn, link, from_type, to_type, Has, leaves, enters, link_of, Given, order_of, type_of}
-use Rattle.plans.proofs.Places.{nth_within, nth_place_in, place_in_found, mapped_some}
-use Rattle.plans.proofs.Walking.{some_eq, none_some, single_eq, word_known, link_at_lem}
-
-then_some : {A B : Type 0} (o : Option A) (f : A → Option B) (y : B) → and_then o f ≡ Some y → (x : A) × (o ≡ Some x) × (f x ≡ Some y)
-then_some None f y e = absurd (none_some y e)
-then_some (Some x) f y e = (x, refl, e)
-
-flat_some : {A : Type 0} (o : Option (Option A)) (y : A) → option_flatten o ≡ Some y → o ≡ Some (Some y)
-flat_some None y e = absurd (none_some y e)
-flat_some (Some o) y e = ap Some e
+use Rattle.plans.specs.Orders.{Edge, turn, link, Has, leaves, enters, link_of, Given, order_of, type_of}
+use Rattle.plans.proofs.Places.{slice_get_place_in, place_in_found, option_map_some, and_then_some, option_flatten_some}
+use Rattle.plans.proofs.Walking.{single_eq, word_known, link_at_lem}
 
 module _ (p : Plan) (k : Keeps p) where
-  place_is : (t i w : ℕ) → word_at p t i ≡ Some w → place_of p t w ≡ Some i
-  place_is t i w e =
+  pub word_place : (t i w : ℕ) → word_at p t i ≡ Some w → place_of p t w ≡ Some i
+  word_place t i w e =
       let (j, is) = place_in_found (words_of p t) w i e in
-      is ∙ ap Some (k.differ t j i w (nth_place_in (words_of p t) w j is) e)
+      is ∙ ap Some (k.differ t j i w (slice_get_place_in (words_of p t) w j is) e)
 
   pub precede : (e d : Event) → OfPlan p e → Rests p e d → Precedes (order_of p) (type_of d) (d.word ∷ []) (type_of e) (e.word ∷ [])
   precede e d (i, of) (own_start es ds same word) =
-      let there : word_at p d.task i ≡ Some d.word = subst (λ t. word_at p t i ≡ Some d.word) same (nth_place_in (words_of p e.task) e.word i of ∙ ap Some word) in (
+      let there : word_at p d.task i ≡ Some d.word = subst (λ t. word_at p t i ≡ Some d.word) same (slice_get_place_in (words_of p e.task) e.word i of ∙ ap Some word) in (
         record {
           edge = turn d.task Start;
           has = word_known p d.task i d.word there;
@@ -38,8 +32,8 @@ module _ (p : Plan) (k : Keeps p) where
         (d.word, e.word, refl, refl, ((i, there), sym word)),
       )
   precede e d of (one_earlier es ds same next) =
-      let (i, is, there) = then_some (place_of p d.task d.word) (λ i. word_at p d.task (i + 1)) e.word next in
-      let here = nth_place_in (words_of p d.task) d.word i is in (
+      let (i, is, there) = and_then_some (place_of p d.task d.word) (λ i. word_at p d.task (i + 1)) e.word next in
+      let here = slice_get_place_in (words_of p d.task) d.word i is in (
         record {
           edge = turn d.task Finish;
           has = word_known p d.task i d.word here;
@@ -49,13 +43,13 @@ module _ (p : Plan) (k : Keeps p) where
         (d.word, e.word, refl, refl, (i, here, there)),
       )
   precede e d of (by_link l ends reply) =
-      let (m, is, _) = mapped_some (λ x. x.ends) (slice_get p.links l) (between d e) ends in
-      let h = nth_within p.links l m is in
+      let (m, is, _) = option_map_some (λ x. x.ends) (slice_get p.links l) (between d e) ends in
+      let h = slice_get_within p.links l m is in
       let at = link_at_lem p l h in
-      let joins = some_eq (link_of p l).ends (between d e) (sym (ap (option_map (λ x. x.ends)) at) ∙ ends) in
-      let (i, place, got) = then_some (place_of p (link_of p l).ends.from d.word) (λ i. option_flatten (slice_get (link_of p l).targets i)) e.word (sym (ap (λ o. and_then o (λ x. gives p x d.word)) at) ∙ reply) in (
-        record { edge = link l; has = h; from = ap from_type joins; to = ap to_type joins },
-        (d.word, e.word, refl, refl, (i, nth_place_in (words_of p (link_of p l).ends.from) d.word i place, flat_some (slice_get (link_of p l).targets i) e.word got)),
+      let joins = same_Some (link_of p l).ends (between d e) (sym (ap (option_map (λ x. x.ends)) at) ∙ ends) in
+      let (i, place, got) = and_then_some (place_of p (link_of p l).ends.from.task d.word) (λ i. option_flatten (slice_get (link_of p l).targets i)) e.word (sym (ap (λ o. and_then o (λ x. gives p x d.word)) at) ∙ reply) in (
+        record { edge = link l; has = h; from = ap (λ (x : Ends). x.from) joins; to = ap (λ (x : Ends). x.to) joins },
+        (d.word, e.word, refl, refl, (i, slice_get_place_in (words_of p (link_of p l).ends.from.task) d.word i place, option_flatten_some (slice_get (link_of p l).targets i) e.word got)),
       )
 
   rest_by : (e d : Event) (x : Edge) (v w : ℕ) → Has (task_count p) (link_count p) x → leaves (λ l. (link_of p l).ends) x ≡ type_of d → enters (λ l. (link_of p l).ends) x ≡ type_of e
@@ -63,14 +57,14 @@ module _ (p : Plan) (k : Keeps p) where
   rest_by e d (turn t Start) v w h f g isv isw (_, same) =
       own_start (sym (ap (λ y. y.side) g)) (sym (ap (λ y. y.side) f)) (sym (ap (λ y. y.task) g) ∙ ap (λ y. y.task) f) (isw ∙ sym same ∙ sym isv)
   rest_by e d (turn t Finish) v w h f g isv isw (i, here, there) =
-      let next : next_word p t d.word ≡ Some e.word = ap (λ o. and_then o (λ i. word_at p t (i + 1))) (place_is t i d.word (here ∙ ap Some (sym isv))) ∙ there ∙ ap Some (sym isw) in
+      let next : next_word p t d.word ≡ Some e.word = ap (λ o. and_then o (λ i. word_at p t (i + 1))) (word_place t i d.word (here ∙ ap Some (sym isv))) ∙ there ∙ ap Some (sym isw) in
       one_earlier (sym (ap (λ y. y.side) g)) (sym (ap (λ y. y.side) f)) (sym (ap (λ y. y.task) g) ∙ ap (λ y. y.task) f)
       (subst (λ u. next_word p u d.word ≡ Some e.word) (ap (λ y. y.task) f) next)
   rest_by e d (link l) v w h f g isv isw (i, here, there) =
       let at = link_at_lem p l h in
-      let place = place_is (link_of p l).ends.from i d.word (here ∙ ap Some (sym isv)) in
+      let place = word_place (link_of p l).ends.from.task i d.word (here ∙ ap Some (sym isv)) in
       by_link l
-      (ap (option_map (λ x. x.ends)) at ∙ ap Some (λ j. record { from = (f j).task; from_side = (f j).side; to = (g j).task; to_side = (g j).side }))
+      (ap (option_map (λ x. x.ends)) at ∙ ap Some (λ j. record { from = record { task = (f j).task; side = (f j).side }; to = record { task = (g j).task; side = (g j).side } }))
       (ap (λ o. and_then o (λ x. gives p x d.word)) at ∙ ap (λ o. and_then o (λ i. option_flatten (slice_get (link_of p l).targets i))) place ∙ ap option_flatten there ∙ ap Some (sym isw))
 
   pub rest : (e d : Event) → Precedes (order_of p) (type_of d) (d.word ∷ []) (type_of e) (e.word ∷ []) → Rests p e d

@@ -29,7 +29,7 @@ abbrev pub link_read : shapes.Link → Ends × List Rule
 link_read l = (l.ends, l.rules)
 
 abbrev pub LinkGood : Description → Link → Type 0
-LinkGood d l = LinkLimits d l × (l.ends.from ≡ l.ends.to → ⊥)
+LinkGood d l = LinkLimits d l × (l.ends.from.task ≡ l.ends.to.task → ⊥)
 
 -- the tasks that were read are as many as those of d, and have as many parameters
 pub record Alike (tasks : List Params) (d : Description) : Type 0 where
@@ -41,8 +41,8 @@ link_back bs tasks d alike at x h =
     let a = on_ok_ok (ends bs at) _ x h in
     let e = a.0.0 in
     let b = on_ok_ok (unless (join (length tasks) e) kind.Ends at a.0.1) _ x a.2 in
-    let n = (task_of tasks e.to).used in
-    let sources = (task_of tasks e.from).used in
+    let n = (task_of tasks e.to.task).used in
+    let sources = (task_of tasks e.from.task).used in
     let c = on_ok_ok (times n (rule bs sources) b.0.1) _ x b.2 in
     let qs = c.0.0 in
     let whole = ok_is (record { ends = e; rules = filled_by no_rule qs; begins = at }, c.0.1) x c.2 in
@@ -59,8 +59,8 @@ link_back bs tasks d alike at x h =
         record {
           from_known = omega (arith, two.0, alike.long);
           to_known = omega (arith, two.1, alike.long);
-          ruled = nc.1 ∙ alike.used e.to;
-          rules = subst (λ k. AllByRecursion (RuleLimits k) rs) (alike.used e.from) nc.2;
+          ruled = nc.1 ∙ alike.used e.to.task;
+          rules = subst (λ k. AllByRecursion (RuleLimits k) rs) (alike.used e.from.task) nc.2;
         },
         two.2,
       ),

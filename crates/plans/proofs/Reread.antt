@@ -63,13 +63,13 @@ module _ (bs : List ℕ) (d : Description) (limits : Limits d) (apart : Apart d)
       let t = times_forth s (task bs) task_bits TaskLimits shaped itself (task_forth bs) at a d.tasks limits.each_task ts in
       let same : t.0 ≡ map shaped d.tasks = sym (t.2 ∙ map-id t.0) in
       let each = link_forth bs t.0 d (alike t.0 d same) limits.few_tasks (params_few d.tasks limits.each_task) in
-      let good = both (LinkLimits d) (λ l. l.ends.from ≡ l.ends.to → ⊥) d.links limits.each_link apart in
+      let good = both (LinkLimits d) (λ l. l.ends.from.task ≡ l.ends.to.task → ⊥) d.links limits.each_link apart in
       let l = times_forth s (link bs t.0) link_bits (LinkGood d) link_seen link_read each a b d.links good ls in
       let p = padding_forth bs b c fits pad in
       let n = times_forth s (name bs) name_bits TaskLimits unseen unseen (name_forth bs) c end d.tasks limits.each_task ns in
       let q : Parts = record { tasks = t.0; links = l.0; names = n.0 } in (
         q,
-        body_read bs bs bs bs (record { tasks = length d.tasks; links = length d.links }) at a b c end t.0 l.0 n.0 tt refl refl refl t.1 l.1 p n.1,
+        body_read bs (record { tasks = length d.tasks; links = length d.links }) at a b c end t.0 l.0 n.0 tt t.1 l.1 p n.1,
         parted_by q d same l.2,
       )
 

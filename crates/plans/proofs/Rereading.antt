@@ -1,9 +1,10 @@
 -- Each part of a record, back from what is read: the writing of a part with its limits stands there.
-use Rattle.std.proofs.Common.{◌≡◌, ℕ, ◌-◌, ◌<◌, ◌≤◌, Bool, true, false, cond, ◌||◌, eqb, ltb, leb, ◌⊎◌, List, ◌++◌, map, length, Ok, sym, refl, ap, ◌∙◌, subst, inl, inr, arith}
+use Rattle.std.proofs.Common.{◌≡◌, ℕ, ◌-◌, ◌≤◌, Bool, true, cond, ◌||◌, eqb, ltb, leb, List, ◌++◌, map, length, Ok, sym, ap, ◌∙◌, subst, arith}
 use Rattle.std.specs.List.{flat_map, AllByRecursion}
 use Rattle.std.proofs.lemmas.List.{map-id}
-use Rattle.std.proofs.lemmas.Bool.{leb-true, ltb-true, eqb-true, or_cases}
+use Rattle.std.proofs.lemmas.Bool.{leb-true, ltb-true}
 use Rattle.bits.specs.Bits.{bits, digits}
+use Rattle.plans.specs.declared.ends.EventType.{EventType}
 use Rattle.plans.specs.declared.fault.Kind.{Kind}
 use Rattle.plans.specs.declared.fault.Kind.TheVariants as kind
 use Rattle.plans.specs.declared.param.Param.{Param}
@@ -11,18 +12,18 @@ use Rattle.plans.specs.declared.rule.Rule.{Rule}
 use Rattle.plans.specs.declared.ends.Ends.{Ends}
 use Rattle.plans.specs.declared.shapes.Params.{Params}
 use Rattle.plans.specs.Reads.{unless, times, number, number_that}
-use Rattle.plans.specs.Layout.{param, filled, task, twos, rule, side_of, ends}
+use Rattle.plans.specs.Layout.{param, filled, task, twos, pick_of, rule, side_of, ends, event_type}
 use Rattle.plans.specs.Words.{count, most_words}
-use Rattle.plans.specs.Description.{param_bits, rule_bits, ends_bits, complement, side_bit, Range, RuleLimits}
+use Rattle.plans.specs.Description.{param_bits, rule_bits, ends_bits, complement, pick_number, side_bit, Range, RuleLimits, event_type_bits}
 use Rattle.plans.proofs.Fields.{on_ok_ok, count_filled}
 use Rattle.plans.proofs.Naming.{ok_is}
-use Rattle.plans.proofs.Codes.{flag_bit, side_bit_lem, twos_range, complement_twos}
+use Rattle.plans.proofs.Codes.{flag_bit, side_bit_lem, pick_number_of, twos_range, complement_twos}
 use Rattle.plans.proofs.Spelling.{Spells, spells_then, number_back, number_that_back}
 use Rattle.plans.proofs.Rows.{Back, times_back}
+use Rattle.std.proofs.lemmas.Bool.Decides.{nat_tests}
 
 pub unless_back : (test : Bool) (k : Kind) (begin at : ℕ) (x : Unit {0} × ℕ) → unless test k begin at ≡ Ok x → (test ≡ true) × (at ≡ x.1)
-unless_back true k begin at x h = (refl, ap (λ q. q.1) (ok_is (tt, at) x h))
-unless_back false k begin at x h = absurd (let z : ◌≡◌ {A = ℕ} 0 1 = cc in omega arith)
+unless_back test k begin at x h = grind (arith, nat_tests)
 
 abbrev pub itself : {A : Type 0} → A → A
 itself x = x
@@ -89,12 +90,6 @@ task_back bs at x h =
       subst (λ e. Spells (bits bs) at (params_bits ps) e) end (spells_then (bits bs) (digits 3 (length ps)) (flat_map param_bits ps) at a.0.1 b.0.1 first nb.4),
     )
 
-pub pick_from : (pick sources : ℕ) → (ltb pick sources || eqb pick 4) ≡ true → (pick < sources) ⊎ (pick ≡ 4)
-pick_from pick sources h = elim (or_cases (ltb pick sources) (eqb pick 4) h) [
-  | inl t ↦ inl (ltb-true pick sources t)
-  | inr t ↦ inr (eqb-true pick 4 t)
-]
-
 pub rule_back : (bs : List ℕ) (sources : ℕ) → Back (bits bs) (rule bs sources) rule_bits (RuleLimits sources) itself itself
 rule_back bs sources at x h =
     let a = on_ok_ok (number_that bs 3 (λ pick. ltb pick sources || eqb pick 4) kind.Rule at) _ x h in
@@ -103,40 +98,41 @@ rule_back bs sources at x h =
     let n = b.0.0 in
     let c = on_ok_ok (number_that bs 4 (λ divisor. ltb 0 divisor) kind.Rule b.0.1) _ x b.2 in
     let divisor = c.0.0 in
-    let r : Rule = record { pick = pick; add = twos 9 n; divisor = divisor } in
+    let r : Rule = record { pick = pick_of pick; add = twos 9 n; divisor = divisor } in
     let whole = ok_is (r, c.0.1) x c.2 in
     let na = number_that_back bs 3 (λ pick. ltb pick sources || eqb pick 4) kind.Rule at a.0 a.1 in
     let nb = number_back bs 9 a.0.1 b.0 b.1 in
     let nc = number_that_back bs 4 (λ divisor. ltb 0 divisor) kind.Rule b.0.1 c.0 c.1 in
     let range = twos_range n nb.0 in
+    let picks = subst (λ k. Spells (bits bs) at (digits 3 k) a.0.1) (sym (pick_number_of pick)) na.2 in
     let some = ltb-true 0 divisor nc.0 in
     let few = nc.1 in
     let mid = subst (λ n. Spells (bits bs) a.0.1 (digits 9 n) b.0.1) (sym (complement_twos n nb.0)) nb.1 in (
       r,
-      record { picks = pick_from pick sources na.0; low = range.0; high = range.1; divides = some; divisor = omega arith },
+      record { picks = (let passes = na.0 in grind (arith, nat_tests)); low = range.0; high = range.1; divides = some; divisor = omega arith },
       ap (λ q. q.0) whole,
       subst (λ q. Spells (bits bs) at (rule_bits r) q.1) whole
-          (spells_then (bits bs) (digits 3 pick) (digits 9 (complement 9 (twos 9 n)) ++ digits 4 divisor) at a.0.1 c.0.1 na.2
+          (spells_then (bits bs) (digits 3 (pick_number (pick_of pick))) (digits 9 (complement 9 (twos 9 n)) ++ digits 4 divisor) at a.0.1 c.0.1 picks
           (spells_then (bits bs) (digits 9 (complement 9 (twos 9 n))) (digits 4 divisor) a.0.1 b.0.1 c.0.1 mid nc.2)),
     )
 
-pub ends_back : (bs : List ℕ) (at : ℕ) (x : Ends × ℕ) → ends bs at ≡ Ok x → Spells (bits bs) at (ends_bits x.0) x.1
-ends_back bs at x h =
+event_type_back : (bs : List ℕ) (at : ℕ) (x : EventType × ℕ) → event_type bs at ≡ Ok x → Spells (bits bs) at (event_type_bits x.0) x.1
+event_type_back bs at x h =
     let a = on_ok_ok (number bs 5 at) _ x h in
     let b = on_ok_ok (number bs 1 a.0.1) _ x a.2 in
-    let c = on_ok_ok (number bs 5 b.0.1) _ x b.2 in
-    let d = on_ok_ok (number bs 1 c.0.1) _ x c.2 in
-    let e : Ends = record { from = a.0.0; from_side = side_of b.0.0; to = c.0.0; to_side = side_of d.0.0 } in
-    let whole = ok_is (e, d.0.1) x d.2 in
+    let e : EventType = record { task = a.0.0; side = side_of b.0.0 } in
+    let whole = ok_is (e, b.0.1) x b.2 in
     let na = number_back bs 5 at a.0 a.1 in
     let nb = number_back bs 1 a.0.1 b.0 b.1 in
-    let nc = number_back bs 5 b.0.1 c.0 c.1 in
-    let nd = number_back bs 1 c.0.1 d.0 d.1 in
-    let s = side_bit (side_of b.0.0) in
-    let t = side_bit (side_of d.0.0) in
-    let one = subst (λ n. Spells (bits bs) a.0.1 (digits 1 n) b.0.1) (side_bit_lem b.0.0 nb.0) nb.1 in
-    let two = subst (λ n. Spells (bits bs) c.0.1 (digits 1 n) d.0.1) (side_bit_lem d.0.0 nd.0) nd.1 in
+    let side = subst (λ n. Spells (bits bs) a.0.1 (digits 1 n) b.0.1) (side_bit_lem b.0.0 nb.0) nb.1 in
+    subst (λ q. Spells (bits bs) at (event_type_bits q.0) q.1) whole
+    (spells_then (bits bs) (digits 5 a.0.0) (digits 1 (side_bit (side_of b.0.0))) at a.0.1 b.0.1 na.1 side)
+
+pub ends_back : (bs : List ℕ) (at : ℕ) (x : Ends × ℕ) → ends bs at ≡ Ok x → Spells (bits bs) at (ends_bits x.0) x.1
+ends_back bs at x h =
+    let a = on_ok_ok (event_type bs at) _ x h in
+    let b = on_ok_ok (event_type bs a.0.1) _ x a.2 in
+    let e : Ends = record { from = a.0.0; to = b.0.0 } in
+    let whole = ok_is (e, b.0.1) x b.2 in
     subst (λ q. Spells (bits bs) at (ends_bits q.0) q.1) whole
-    (spells_then (bits bs) (digits 5 a.0.0) (digits 1 s ++ (digits 5 c.0.0 ++ digits 1 t)) at a.0.1 d.0.1 na.1
-    (spells_then (bits bs) (digits 1 s) (digits 5 c.0.0 ++ digits 1 t) a.0.1 b.0.1 d.0.1 one
-    (spells_then (bits bs) (digits 5 c.0.0) (digits 1 t) b.0.1 c.0.1 d.0.1 nc.1 two)))
+    (spells_then (bits bs) (event_type_bits a.0.0) (event_type_bits b.0.0) at a.0.1 b.0.1 (event_type_back bs at a.0 a.1) (event_type_back bs a.0.1 b.0 b.1))

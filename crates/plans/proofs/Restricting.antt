@@ -1,31 +1,24 @@
 -- A plan that keeps the rules describes a restricted parametrized partial order.
-use Rattle.std.proofs.Common.{◌≡◌, ℕ, zero, suc, ◌+◌, ◌<◌, ◌≤◌, true, List, [], ◌∷◌, length, get_or, is_some, Some, None, Option, sym, refl, ap, ◌∙◌, subst, arith}
+use Rattle.std.proofs.Common.{◌≡◌, ℕ, zero, suc, ◌+◌, ◌<◌, ◌≤◌, List, [], ◌∷◌, length, get_or, Some, None, Option, sym, refl, ap, ◌∙◌, subst, arith}
 use Rattle.std.specs.List.{slice_get}
-use Rattle.std.proofs.lemmas.Option.{slice_get-get_or}
-use Rattle.std.proofs.lemmas.Bool.{false≢true}
+use Rattle.std.proofs.lemmas.Option.{slice_get-get_or, slice_get_within, same_Some}
 use Rattle.plans.specs.declared.ends.Side.{Side}
 use Rattle.plans.specs.declared.ends.Side.TheVariants.{Start, Finish}
 use Rattle.plans.specs.Plan.{Plan, Keeps, KeepsLink, task_count, link_count, words_of, word_at, place_of}
 use Rattle.plans.specs.Ppo.{Valuation, Next, Steps, Upto}
 use Rattle.plans.specs.Orders.{Edge, turn, link, other, Has, leaves, enters, link_of, Word, Given, order_of, Describes}
-use Rattle.plans.proofs.Places.{nth_within, nth_place_in}
-use Rattle.plans.proofs.Walking.{some_eq, single_eq, start_end, word_known, word_at_lem, link_at_lem, next_from, upto, Alone, next_is, walked}
-
-some_from : (o : Option ℕ) → is_some o ≡ true → (x : ℕ) × (o ≡ Some x)
-some_from None h = absurd (false≢true h)
-some_from (Some x) h = (x, refl)
+use Rattle.plans.proofs.Places.{slice_get_place_in, some_from_is_some}
+use Rattle.plans.proofs.Walking.{single_eq, word_known, word_at_lem, link_at_lem, next_from, upto, Alone, next_is, walked}
+use Rattle.std.proofs.lemmas.Bool.Decides.{nat_tests}
 
 pub valuation_is : (p : Plan) (t : ℕ) (vs : List ℕ) → Valuation (order_of p) t vs → (v : ℕ) × (vs ≡ v ∷ []) × Word p t v
-valuation_is p t [] h = absurd h
-valuation_is p t (v ∷ []) h = (v, refl, h.0)
-valuation_is p t (v ∷ w ∷ vs) h = absurd h.1
+valuation_is p t vs h = grind (arith, nat_tests)
 
 valuation_of : (p : Plan) (t v : ℕ) (vs : List ℕ) → vs ≡ v ∷ [] → Word p t v → Valuation (order_of p) t vs
 valuation_of p t v vs e h = subst (Valuation (order_of p) t) (sym e) (h, tt)
 
 sides_differ : (s : Side) → s ≡ other s → ⊥
-sides_differ Start e = start_end e
-sides_differ Finish e = start_end (sym e)
+sides_differ s e = grind (arith, nat_tests)
 
 module _ (p : Plan) (k : Keeps p) where
   abbrev leave : Edge → ℕ
@@ -56,15 +49,15 @@ module _ (p : Plan) (k : Keeps p) where
   once (link l) (turn u r) h g a b = absurd (alone l h (ap (λ x. x.task) a ∙ sym (ap (λ x. x.task) b)))
   once (link l) (link m) h g a b =
       ap link (k.ends_differ l m (link_of p l) (link_of p m) (link_at_lem p l h) (link_at_lem p m g)
-      (λ i. record { from = (a i).task; from_side = (a i).side; to = (b i).task; to_side = (b i).side }))
+      (λ i. record { from = a i; to = b i }))
 
   -- where a target lands
   lands_at : (l i w : ℕ) → l < link_count p → slice_get (link_of p l).targets i ≡ Some (Some w)
-      → (j : ℕ) × (place_of p (link_of p l).ends.to w ≡ Some j) × (word_at p (link_of p l).ends.to j ≡ Some w)
+      → (j : ℕ) × (place_of p (link_of p l).ends.to.task w ≡ Some j) × (word_at p (link_of p l).ends.to.task j ≡ Some w)
   lands_at l i w h e =
-      let t = (link_of p l).ends.to in
-      let (j, is) = some_from (place_of p t w) ((rules l h).lands i w e) in
-      (j, is, nth_place_in (words_of p t) w j is)
+      let t = (link_of p l).ends.to.task in
+      let (j, is) = some_from_is_some (place_of p t w) ((rules l h).lands i w e) in
+      (j, is, slice_get_place_in (words_of p t) w j is)
 
   typed : (e : Edge) (v w : ℕ) → There e → Given p e v w → Word p (leave e) v × Word p (enter e) w
   typed (turn t Start) v w h (at, same) = (at, (at.0, at.1 ∙ ap Some same))
@@ -72,24 +65,20 @@ module _ (p : Plan) (k : Keeps p) where
   typed (link l) v w h (i, e, f) = let (j, is, at) = lands_at l i w h f in ((i, e), (j, at))
 
   function : (e : Edge) (v w u : ℕ) → There e → Given p e v w → Given p e v u → w ≡ u
-  function (turn t Start) v w u h (_, a) (_, b) = sym a ∙ b
-  function (turn t Finish) v w u h (i, a, b) (j, c, d) =
-      some_eq w u (sym b ∙ ap (λ i. word_at p t (i + 1)) (k.differ t i j v a c) ∙ d)
-  function (link l) v w u h (i, a, b) (j, c, d) =
-      some_eq w u (some_eq (Some w) (Some u) (sym b ∙ ap (slice_get (link_of p l).targets) (k.differ (link_of p l).ends.from i j v a c) ∙ d))
+  function e v w u h h5 h6 = grind (arith, nat_tests)
 
   first_word : (t : ℕ) → t < task_count p → word_at p t 0 ≡ Some (first t)
   first_word t h = word_at_lem p t 0 (k.some_words t h)
 
   -- a reply at an earlier place
-  earlier : (l v u i j : ℕ) (o : Option ℕ) → l < link_count p → i ≤ j → word_at p (link_of p l).ends.from i ≡ Some v
+  earlier : (l v u i j : ℕ) (o : Option ℕ) → l < link_count p → i ≤ j → word_at p (link_of p l).ends.from.task i ≡ Some v
       → slice_get (link_of p l).targets i ≡ Some o → slice_get (link_of p l).targets j ≡ Some (Some u)
-      → (z : ℕ) × Given p (link l) v z × Upto (order_of p) (link_of p l).ends.to (z ∷ []) (u ∷ [])
+      → (z : ℕ) × Given p (link l) v z × Upto (order_of p) (link_of p l).ends.to.task (z ∷ []) (u ∷ [])
   earlier l v u i j None h le e f g = absurd ((rules l h).first_ones i j u le f g)
   earlier l v u i j (Some z) h le e f g =
       let (a, isa, ata) = lands_at l i z h f in
       let (b, isb, atb) = lands_at l j u h g in
-      (z, (i, e, f), upto p (link_of p l).ends.to a b z u ((rules l h).in_order i j z u a b le f g isa isb) ata atb)
+      (z, (i, e, f), upto p (link_of p l).ends.to.task a b z u ((rules l h).in_order i j z u a b le f g isa isb) ata atb)
 
   monotonic : (e : Edge) (v w u i j : ℕ) → There e → i ≤ j → word_at p (leave e) i ≡ Some v → word_at p (leave e) j ≡ Some w → Given p e w u
       → (z : ℕ) × Given p e v z × Upto (order_of p) (enter e) (z ∷ []) (u ∷ [])
@@ -97,12 +86,12 @@ module _ (p : Plan) (k : Keeps p) where
       (v, ((i, a), refl), upto p t i j v u le a (b ∙ ap Some same))
   monotonic (turn t Finish) v w u i j h le a b (m, c, d) =
       let same = k.differ t m j w c b in
-      let room : i + 1 < length (words_of p t) = omega (arith, nth_within (words_of p t) (m + 1) u d) in
+      let room : i + 1 < length (words_of p t) = omega (arith, slice_get_within (words_of p t) (m + 1) u d) in
       let there = word_at_lem p t (i + 1) room in
       (get_or (words_of p t) (i + 1) 0, (i, a, there), upto p t (i + 1) (m + 1) (get_or (words_of p t) (i + 1) 0) u (omega arith) there d)
   monotonic (link l) v w u i j h le a b (m, c, d) =
-      let same = k.differ (link_of p l).ends.from m j w c b in
-      let room : i < length (link_of p l).targets = omega (arith, nth_within (link_of p l).targets m (Some u) d) in
+      let same = k.differ (link_of p l).ends.from.task m j w c b in
+      let room : i < length (link_of p l).targets = omega (arith, slice_get_within (link_of p l).targets m (Some u) d) in
       earlier l v u i m (get_or (link_of p l).targets i None) h (omega arith) a (slice_get-get_or (link_of p l).targets i None room) d
 
   apart : (e : Edge) → There e → leave e ≡ enter e → leaves (λ l. (link_of p l).ends) e ≡ enters (λ l. (link_of p l).ends) e → ⊥
@@ -110,9 +99,9 @@ module _ (p : Plan) (k : Keeps p) where
   apart (link l) h same all = alone l h same
 
   last : (t w i : ℕ) → word_at p t i ≡ Some w → ((vs : List ℕ) → Next (order_of p) t vs (w ∷ []) → ⊥) → w ≡ first t
-  last t w zero e none = some_eq w (first t) (sym e ∙ first_word t (word_known p t 0 w e))
+  last t w zero e none = same_Some w (first t) (sym e ∙ first_word t (word_known p t 0 w e))
   last t w (suc i) e none =
-      let room : i < length (words_of p t) = omega (arith, nth_within (words_of p t) (suc i) w e) in
+      let room : i < length (words_of p t) = omega (arith, slice_get_within (words_of p t) (suc i) w e) in
       let on : i + 1 ≡ suc i = omega arith in
       absurd (none (get_or (words_of p t) i 0 ∷ []) (next_from p t i (get_or (words_of p t) i 0) w (word_at_lem p t i room) (ap (word_at p t) on ∙ e)))
 
@@ -133,7 +122,7 @@ module _ (p : Plan) (k : Keeps p) where
       let (w, x, isw, isx, (j, c, d)) = next_is p alone t ws us n in
       let at = k.differ t (i + 1) (j + 1) u b (d ∙ ap Some (single_eq x u (sym isx ∙ isu))) in
       let same : i ≡ j = omega arith in
-      isv ∙ ap (λ x. x ∷ []) (some_eq v w (sym a ∙ ap (word_at p t) same ∙ c)) ∙ sym isw
+      isv ∙ ap (λ x. x ∷ []) (same_Some v w (sym a ∙ ap (word_at p t) same ∙ c)) ∙ sym isw
 
   pub describes : Describes p
   describes = record {

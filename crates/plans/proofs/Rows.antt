@@ -47,12 +47,12 @@ module _ {A Y C : Type 0} (s : List ℕ) (m : Read A) (w : Y → List ℕ) (Good
       let b = times_forth each mid end ys all.1 (spells_rest s (w y) (flat_map w ys) at end sp) in
       (a.0 ∷ b.0, on_ok_from (m at) _ (a.0, mid) _ a.1 (on_ok_from (times (length ys) m mid) _ (b.0, end) _ b.1 refl), λ i. a.2 i ∷ b.2 i)
 
-pub joined_once : {Y C : Type 0} (w : Y → List ℕ) (Good : Y → Type 0) (f : Y → C) → Once w Good f
+pub flat_map_once : {Y C : Type 0} (w : Y → List ℕ) (Good : Y → Type 0) (f : Y → C) → Once w Good f
     → (ys zs : List Y) (r s : List ℕ) → length ys ≡ length zs → AllByRecursion Good ys → AllByRecursion Good zs → flat_map w ys ++ r ≡ flat_map w zs ++ s → (map f ys ≡ map f zs) × (r ≡ s)
-joined_once w Good f each [] [] r s long a b e = (refl, e)
-joined_once w Good f each [] (z ∷ zs) r s long a b e = absurd (omega arith)
-joined_once w Good f each (y ∷ ys) [] r s long a b e = absurd (omega arith)
-joined_once w Good f each (y ∷ ys) (z ∷ zs) r s long a b e =
+flat_map_once w Good f each [] [] r s long a b e = (refl, e)
+flat_map_once w Good f each [] (z ∷ zs) r s long a b e = absurd (omega arith)
+flat_map_once w Good f each (y ∷ ys) [] r s long a b e = absurd (omega arith)
+flat_map_once w Good f each (y ∷ ys) (z ∷ zs) r s long a b e =
     let one = each y z (flat_map w ys ++ r) (flat_map w zs ++ s) a.0 b.0 (sym (append_assoc (w y) (flat_map w ys) r) ∙ e ∙ append_assoc (w z) (flat_map w zs) s) in
-    let rest = joined_once w Good f each ys zs r s (omega arith) a.1 b.1 one.1 in
+    let rest = flat_map_once w Good f each ys zs r s (omega arith) a.1 b.1 one.1 in
     ((λ i. one.0 i ∷ rest.0 i), rest.1)

@@ -13,6 +13,8 @@ use Rattle.plans.specs.declared.fault.Kind.{Kind}
 use Rattle.plans.specs.Reads.{on_ok, next, unless, give, lifted, number, number_that}
 use Rattle.plans.proofs.Fields.{on_ok_ok, number_that_from}
 use Rattle.plans.proofs.Naming.{ok_is}
+use Rattle.std.proofs.lemmas.Grind.{common_steps}
+use Rattle.std.proofs.lemmas.Option.{gets}
 
 -- the bits p stand from a place to another
 pub record Spells (s : List ℕ) (at : ℕ) (p : List ℕ) (end : ℕ) : Type 0 where
@@ -23,10 +25,7 @@ pub spells_none : (s : List ℕ) (at : ℕ) → Spells s at [] at
 spells_none s at = record { here = refl; ends = omega arith }
 
 pub spells_then : (s p q : List ℕ) (at mid end : ℕ) → Spells s at p mid → Spells s mid q end → Spells s at (p ++ q) end
-spells_then s p q at mid end a b = record {
-  here = a.here ∙ ap (λ r. p ++ r) b.here ∙ sym (append_assoc p q (drop end s));
-  ends = omega (arith, a.ends, b.ends, length-append p q);
-}
+spells_then s p q at mid end a b = grind (arith, common_steps, gets)
 
 module _ (s p q : List ℕ) (at end : ℕ) (whole : Spells s at (p ++ q) end) where
   spells_skip : drop (at + length p) s ≡ q ++ drop end s
@@ -46,7 +45,7 @@ on_ok_from r f x y a b = ap (λ r. on_ok r f) a ∙ b
 pub number_back : (bs : List ℕ) (width at : ℕ) (x : ℕ × ℕ) → number bs width at ≡ Ok x → (x.0 < 2 ^ width) × Spells (bits bs) at (digits width x.0) x.1
 number_back bs width at x h =
     elim (cases_Bool (ltb (length (bits bs)) (at + width))) [
-      | inl t ↦ absurd (let f = rw t at h in let z : ◌≡◌ {A = ℕ} 0 1 = cc in omega arith)
+      | inl t ↦ absurd (let f = rw t at h in cc)
       | inr t ↦
           (let ds = field bs at width in
           let fits = ltb-false (length (bits bs)) (at + width) t in
@@ -71,7 +70,7 @@ number_that_back bs width test k at x h =
     let is = number_back bs width at a.0 a.1 in
     elim (cases_Bool (test n)) [
       | inl t ↦ (let whole = ok_is (n, a.0.1) x (rw t at a.2) in subst (λ q. (test q.0 ≡ true) × (q.0 < 2 ^ width) × Spells (bits bs) at (digits width q.0) q.1) whole (t, is.0, is.1))
-      | inr t ↦ absurd (let f = rw t at a.2 in let z : ◌≡◌ {A = ℕ} 0 1 = cc in omega arith)
+      | inr t ↦ absurd (let f = rw t at a.2 in cc)
     ]
 
 -- and a number whose bits stand within the record is read

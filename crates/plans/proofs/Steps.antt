@@ -1,12 +1,11 @@
 -- One turn of the loops over a task's parameters.
-use Rattle.std.proofs.Common.{◌≡◌, ℕ, zero, suc, ◌+◌, ◌*◌, ◌/◌, ◌%◌, ◌^◌, ◌<◌, ◌≤◌, List, [], ◌∷◌, length, get_or, drop, set, sym, ap, ◌∙◌, subst, inl, inr, mod-lt, mul_assoc, mul_comm, add-mul, div-add-mod', arith}
-use native.Mathlib.Nat.{div-div-eq-div-mul, div-eq_of_lt}
-use Rattle.std.proofs.lemmas.List.{at_drop_more, drop_more, drop-set}
+use Rattle.std.proofs.Common.{◌≡◌, ℕ, zero, suc, ◌+◌, ◌*◌, ◌/◌, ◌%◌, ◌<◌, ◌≤◌, List, [], ◌∷◌, ◌++◌, length, get_or, take, drop, set, Some, Option, sym, refl, ap, ◌∙◌, subst, mul_assoc, mul_comm, add-mul, arith}
+use native.Mathlib.Nat.{div-div-eq-div-mul}
+use Rattle.std.proofs.lemmas.List.{at_drop_more, drop-set, get_or-take, get_or_at, length_push, take-take, take_at}
 use Rattle.std.proofs.lemmas.Nat.{mul-le}
-use Rattle.std.proofs.lemmas.Bool.{cases_lt}
 use Rattle.plans.specs.declared.param.Param.{Param}
-use Rattle.plans.specs.Lists.{and_then}
-use Rattle.plans.specs.Words.{base, size, count, value_at, turn_of, word_of}
+use Rattle.plans.specs.Words.{size, count, value_at, turn_of}
+use Rattle.plans.proofs.Turns.{value_of_turn}
 use Rattle.plans.proofs.Mixed.{tuple_at, place_from, left_positive, right_positive}
 
 pub count_step : (ps : List Param) (i : ℕ) (d : Param) → i < length ps → count (drop i ps) ≡ size (get_or ps i d) * count (drop (i + 1) ps)
@@ -20,11 +19,11 @@ some_left ps zero some = some
 some_left [] (suc i) some = some
 some_left (p ∷ ps) (suc i) some = some_left ps i (right_positive (size p) (count ps) some)
 
-pub some_size : (ps : List Param) (i : ℕ) (d : Param) → i < length ps → 0 < count ps → 0 < size (get_or ps i d)
+some_size : (ps : List Param) (i : ℕ) (d : Param) → i < length ps → 0 < count ps → 0 < size (get_or ps i d)
 some_size ps i d h some = left_positive (size (get_or ps i d)) (count (drop (i + 1) ps)) (subst (λ n. 0 < n) (count_step ps i d h) (some_left ps i some))
 
 -- a factor is no more than the product
-factor : (x c n : ℕ) → 0 < c → x * c ≤ n → x ≤ n
+pub factor : (x c n : ℕ) → 0 < c → x * c ≤ n → x ≤ n
 factor x c n p h = omega (arith, mul-le x 1 x c (omega arith) p)
 
 pub total_again : (ps : List Param) (i : ℕ) (d : Param) (t s : ℕ) → i < length ps → s ≡ size (get_or ps i d) → t * count (drop i ps) ≡ count ps
@@ -47,32 +46,45 @@ digit_step ps vs place rest k j s v d ej hp hv es ev er et =
     at_drop_more (λ xs. tuple_at xs place) ps k d hp in
     (quotient ∙ ap (λ n. place / n) unit, drop-set vs k v hv ∙ rw (here, ev, er', es, et'))
 
--- there is room for one turn more of a parameter
-pub room_step : (ps : List Param) (i : ℕ) (d : Param) (acc s : ℕ) → 0 < count ps → i < length ps → s ≡ size (get_or ps i d)
-    → (acc + 1) * count (drop i ps) ≤ count ps → ((acc + 1) * s * count (drop (i + 1) ps) ≤ count ps) × (acc * s + s ≤ count ps)
-room_step ps i d acc s some h es e =
-    let c = count (drop (i + 1) ps) in
-    let all : (acc + 1) * s * c ≡ (acc + 1) * count (drop i ps) =
-    mul_assoc (acc + 1) s c ∙ ap (λ n. (acc + 1) * n) (ap (λ n. n * c) es ∙ sym (count_step ps i d h)) in
-    (omega arith, omega (arith, factor ((acc + 1) * s) c (count ps) (some_left ps (i + 1) some) (omega arith), add-mul acc 1 s))
+-- one parameter more is counted, and there is room for what is left
+pub place_step : (ps qs : List Param) (vs us : List ℕ) (p : Param) (v place t n : ℕ) (o : Option ℕ) → ps ≡ p ∷ qs → vs ≡ v ∷ us → turn_of p v ≡ Some t
+    → (place_from place ps vs ≡ o) × ((place + 1) * count ps ≤ n) × (0 < count ps) × (length ps ≡ length vs)
+    → (place_from (place * size p + t) qs us ≡ o) × ((place * size p + t + 1) * count qs ≤ n) × (0 < count qs) × (length qs ≡ length us)
+unfolding count
+place_step ps qs vs us p v place t n o ep ev turn (is, room, some, long) =
+    let c = count qs in
+    let s = size p in
+    let low = (value_of_turn p v t turn).0 in
+    let on : place_from place ps vs ≡ place_from (place * s + t) qs us = rw (ep, ev, turn) in
+    let all : (place + 1) * s * c ≡ (place + 1) * count ps = mul_assoc (place + 1) s c ∙ ap (λ n. (place + 1) * n) (ap count (sym ep)) in
+    let le : place * s + t + 1 ≤ (place + 1) * s = omega (arith, add-mul place 1 s) in
+    let left : 0 < c = right_positive s c (subst (λ xs. 0 < count xs) ep some) in (
+      sym on ∙ is,
+      omega (arith, mul-le (place * s + t + 1) c ((place + 1) * s) c le (omega arith)),
+      left,
+      omega (arith, ap length ep, ap length ev),
+    )
 
-pub place_step : (ps : List Param) (vs : List ℕ) (i : ℕ) (d : Param) (acc : ℕ) → i < length ps → i < length vs
-    → place_from acc (drop i ps) (drop i vs)
-    ≡ and_then (turn_of (get_or ps i d) (get_or vs i 0)) (λ t. place_from (acc * size (get_or ps i d) + t) (drop (i + 1) ps) (drop (i + 1) vs))
-place_step ps vs i d acc hp hv = ap (λ xs. place_from acc xs (drop i vs)) (drop_more ps i d hp) ∙ ap (place_from acc (get_or ps i d ∷ drop (i + 1) ps)) (drop_more vs i 0 hv)
+-- the last of the first parameters of a row
+pub last_left : (ps qs rs : List Param) (p : Param) → qs ≡ take (length qs) ps → qs ≡ rs ++ p ∷ []
+    → (rs ≡ take (length rs) ps) × (length rs + 1 ≡ length qs) × (p ≡ get_or ps (length rs) p)
+last_left ps qs rs p first e =
+    let long : length rs + 1 ≡ length qs = sym (ap length e ∙ length_push rs p) in
+    let is : rs ++ p ∷ [] ≡ take (length rs + 1) ps = sym e ∙ first ∙ ap (λ n. take n ps) (sym long) in (
+      sym (take_at rs (p ∷ []) (length rs) refl) ∙ ap (take (length rs)) is ∙ take-take (length rs) (length rs + 1) ps (omega arith),
+      long,
+      sym (get_or_at rs p [] p (length rs) refl) ∙ ap (λ xs. get_or xs (length rs) p) is ∙ get_or-take (length rs + 1) ps (length rs) p (omega arith),
+    )
+
+-- it has values, where the row has words
+pub last_some : (ps qs rs : List Param) (p : Param) → qs ≡ take (length qs) ps → length qs ≤ length ps → qs ≡ rs ++ p ∷ [] → 0 < count ps → 0 < size p
+last_some ps qs rs p first few e some =
+    let last = last_left ps qs rs p first e in
+    omega (arith, ap size last.2, some_size ps (length rs) p (omega (arith, last.1)) some)
 
 -- the place lies among the words exactly where no turn is left
 pub below_end : (n c : ℕ) → 0 < c → n / c ≡ 0 → n < c
-below_end n c p e = let z : n / c * c ≡ 0 * c = ap (λ q. q * c) e in omega (arith, div-add-mod' n c, mod-lt n p)
+below_end n c p e = grind arith
 
 pub past_end : (n c : ℕ) → (n / c ≡ 0 → ⊥) → c ≤ n
-past_end n c ne = elim (cases_lt n c) [ inl h ↦ absurd (ne (div-eq_of_lt h)) | inr h ↦ h ]
-
--- four bytes as the machine joins them
-pub word_of_four : (vs : List ℕ) → length vs ≡ 4 → get_or vs 0 0 * base ^ 3 + get_or vs 1 0 * base ^ 2 + get_or vs 2 0 * base + get_or vs 3 0 ≡ word_of vs
-word_of_four [] e = absurd (omega arith)
-word_of_four (a ∷ []) e = absurd (omega arith)
-word_of_four (a ∷ b ∷ []) e = absurd (omega arith)
-word_of_four (a ∷ b ∷ c ∷ []) e = absurd (omega arith)
-word_of_four (a ∷ b ∷ c ∷ d ∷ []) e = omega arith
-word_of_four (a ∷ b ∷ c ∷ d ∷ x ∷ vs) e = absurd (omega arith)
+past_end n c ne = grind arith

@@ -1,20 +1,21 @@
 -- No two descriptions with their limits have the same writing.
-use Rattle.std.proofs.Common.{◌≡◌, ℕ, zero, suc, ◌<◌, ◌≤◌, cond, eqb, List, [], ◌∷◌, ◌++◌, map, length, get_or, replicate, pos, negsuc, ◌≤ℤ◌, sym, refl, ap, ◌∙◌, arith}
+use Rattle.std.proofs.Common.{◌≡◌, ℕ, ◌<◌, ◌≤◌, cond, eqb, List, [], ◌∷◌, ◌++◌, map, length, get_or, replicate, IfSome, pos, negsuc, ◌≤ℤ◌, sym, refl, ap, ◌∙◌, arith}
 use Rattle.std.specs.List.{flat_map, AllByRecursion}
 use Rattle.std.proofs.lemmas.List.{append_assoc, append-nil, append_cancel_left, length-append}
 use Rattle.std.proofs.ByRecursion.{All-weaker}
 use Rattle.bits.specs.Bits.{digits}
 use Rattle.bits.proofs.Digits.{digits_once}
+use Rattle.plans.specs.declared.ends.EventType.{EventType}
 use Rattle.plans.specs.declared.param.Param.{Param}
 use Rattle.plans.specs.declared.rule.Rule.{Rule}
-use Rattle.plans.specs.declared.ends.Ends.{Ends}
-use Rattle.plans.specs.Layout.{twos, side_of, to_byte_end}
-use Rattle.plans.specs.Description.{Task, Link, Description, param_bits, task_bits, rule_bits, ends_bits, link_bits, name_bits, front_bits, written, complement, side_bit, Range, TaskLimits, RuleLimits, LinkLimits, Limits, task_at}
-use Rattle.plans.proofs.Codes.{flag_of, flag_small, side_of_lem, side_small, twos_complement, complement_small}
-use Rattle.plans.proofs.Rows.{Once, joined_once}
+use Rattle.plans.specs.Layout.{twos, pick_of, side_of, to_byte_end}
+use Rattle.plans.specs.Description.{Task, Link, Description, param_bits, task_bits, rule_bits, ends_bits, link_bits, name_bits, front_bits, written, complement, pick_number, side_bit, Range, TaskLimits, RuleLimits, LinkLimits, Limits, task_at, event_type_bits}
+use Rattle.plans.proofs.Codes.{flag_of, flag_small, side_of_lem, side_small, pick_of_number, pick_small, pick_few, twos_complement, complement_small}
+use Rattle.plans.proofs.Rows.{Once, flat_map_once}
 use Rattle.plans.proofs.Rereading.{itself, same_rows}
 use Rattle.plans.proofs.Rejoining.{LetterLimits}
-use Rattle.plans.proofs.Parting.{pick_small, params_few}
+use Rattle.plans.proofs.Parting.{params_few}
+use Rattle.plans.proofs.Places.{get_or-map_same}
 
 param_once : Once param_bits Range itself
 param_once p q r s a b e =
@@ -38,7 +39,7 @@ task_once t u r s a b e =
     let fewer = b.few_params in
     let f = simp append_assoc at e in
     let x = digits_once 3 (length ps) (length qs) (flat_map param_bits ps ++ r) (flat_map param_bits qs ++ s) (omega arith) (omega arith) f in
-    let y = joined_once param_bits Range itself param_once ps qs r s x.0 a.ranges b.ranges x.1 in
+    let y = flat_map_once param_bits Range itself param_once ps qs r s x.0 a.ranges b.ranges x.1 in
     (same_rows ps qs y.0, y.1)
 
 name_once : Once name_bits TaskLimits (λ t. t.name)
@@ -49,7 +50,7 @@ name_once t u r s a b e =
     let fewer = b.short in
     let f = simp append_assoc at e in
     let x = digits_once 8 (length ps) (length qs) (flat_map (digits 8) ps ++ r) (flat_map (digits 8) qs ++ s) (omega arith) (omega arith) f in
-    let y = joined_once (digits 8) LetterLimits itself letter_once ps qs r s x.0 a.letters b.letters x.1 in
+    let y = flat_map_once (digits 8) LetterLimits itself letter_once ps qs r s x.0 a.letters b.letters x.1 in
     (same_rows ps qs y.0, y.1)
   where
     letter_once : Once (digits 8) LetterLimits itself
@@ -57,7 +58,7 @@ name_once t u r s a b e =
 
 -- the numbers of a rule and of a link fit their fields
 record RuleFits (r : Rule) : Type 0 where
-  pick : r.pick < 8
+  pick : IfSome r.pick (λ n. n < 4)
   low : negsuc 255 ≤ℤ r.add
   high : r.add ≤ℤ pos 255
   divisor : r.divisor ≤ 15
@@ -68,29 +69,33 @@ rule_once p q r s a b e =
     let few = a.divisor in
     let fewer = b.divisor in
     let f = simp append_assoc at e in
-    let x = digits_once 3 p.pick q.pick (digits 9 (c p) ++ (digits 4 p.divisor ++ r)) (digits 9 (c q) ++ (digits 4 q.divisor ++ s)) a.pick b.pick f in
+    let x = digits_once 3 (pick_number p.pick) (pick_number q.pick) (digits 9 (c p) ++ (digits 4 p.divisor ++ r)) (digits 9 (c q) ++ (digits 4 q.divisor ++ s)) (pick_small p.pick a.pick) (pick_small q.pick b.pick) f in
     let y = digits_once 9 (c p) (c q) (digits 4 p.divisor ++ r) (digits 4 q.divisor ++ s)
     (complement_small p.add a.low a.high) (complement_small q.add b.low b.high) x.1 in
     let z = digits_once 4 p.divisor q.divisor r s (omega arith) (omega arith) y.1 in
+    let pick = sym (pick_of_number p.pick a.pick) ∙ ap pick_of x.0 ∙ pick_of_number q.pick b.pick in
     let add = sym (twos_complement p.add a.low a.high) ∙ ap (twos 9) y.0 ∙ twos_complement q.add b.low b.high in
-    ((λ i. record { pick = x.0 i; add = add i; divisor = z.0 i }), z.1)
+    ((λ i. record { pick = pick i; add = add i; divisor = z.0 i }), z.1)
 
-ends_once : Once ends_bits (λ e. (e.from < 32) × (e.to < 32)) itself
-ends_once p q r s a b e =
-    let u = λ (p : Ends). side_bit p.from_side in
-    let v = λ (p : Ends). side_bit p.to_side in
+event_type_once : Once event_type_bits (λ e. e.task < 32) itself
+event_type_once p q r s a b e =
+    let u = λ (p : EventType). side_bit p.side in
     let f = simp append_assoc at e in
-    let x = digits_once 5 p.from q.from (digits 1 (u p) ++ (digits 5 p.to ++ (digits 1 (v p) ++ r))) (digits 1 (u q) ++ (digits 5 q.to ++ (digits 1 (v q) ++ s))) a.0 b.0 f in
-    let y = digits_once 1 (u p) (u q) (digits 5 p.to ++ (digits 1 (v p) ++ r)) (digits 5 q.to ++ (digits 1 (v q) ++ s)) (side_small p.from_side) (side_small q.from_side) x.1 in
-    let z = digits_once 5 p.to q.to (digits 1 (v p) ++ r) (digits 1 (v q) ++ s) a.1 b.1 y.1 in
-    let w = digits_once 1 (v p) (v q) r s (side_small p.to_side) (side_small q.to_side) z.1 in
-    let one = sym (side_of_lem p.from_side) ∙ ap side_of y.0 ∙ side_of_lem q.from_side in
-    let two = sym (side_of_lem p.to_side) ∙ ap side_of w.0 ∙ side_of_lem q.to_side in
-    ((λ i. record { from = x.0 i; from_side = one i; to = z.0 i; to_side = two i }), w.1)
+    let x = digits_once 5 p.task q.task (digits 1 (u p) ++ r) (digits 1 (u q) ++ s) a b f in
+    let y = digits_once 1 (u p) (u q) r s (side_small p.side) (side_small q.side) x.1 in
+    let side = sym (side_of_lem p.side) ∙ ap side_of y.0 ∙ side_of_lem q.side in
+    ((λ i. record { task = x.0 i; side = side i }), y.1)
+
+ends_once : Once ends_bits (λ e. (e.from.task < 32) × (e.to.task < 32)) itself
+ends_once p q r s a b e =
+    let f = sym (append_assoc (event_type_bits p.from) (event_type_bits p.to) r) ∙ e ∙ append_assoc (event_type_bits q.from) (event_type_bits q.to) s in
+    let x = event_type_once p.from q.from (event_type_bits p.to ++ r) (event_type_bits q.to ++ s) a.0 b.0 f in
+    let y = event_type_once p.to q.to r s a.1 b.1 x.1 in
+    ((λ i. record { from = x.0 i; to = y.0 i }), y.1)
 
 record LinkFits (n : ℕ → ℕ) (l : Link) : Type 0 where
-  ends : (l.ends.from < 32) × (l.ends.to < 32)
-  ruled : length l.rules ≡ n l.ends.to
+  ends : (l.ends.from.task < 32) × (l.ends.to.task < 32)
+  ruled : length l.rules ≡ n l.ends.to.task
   rules : AllByRecursion RuleFits l.rules
 
 link_once : (n : ℕ → ℕ) → Once link_bits (LinkFits n) itself
@@ -99,16 +104,14 @@ link_once n k l r s a b e =
     let ls = flat_map rule_bits l.rules in
     let f = sym (append_assoc (ends_bits k.ends) ks r) ∙ e ∙ append_assoc (ends_bits l.ends) ls s in
     let x = ends_once k.ends l.ends (ks ++ r) (ls ++ s) a.ends b.ends f in
-    let long = a.ruled ∙ ap (λ e. n e.to) x.0 ∙ sym b.ruled in
-    let y = joined_once rule_bits RuleFits itself rule_once k.rules l.rules r s long a.rules b.rules x.1 in
+    let long = a.ruled ∙ ap (λ e. n e.to.task) x.0 ∙ sym b.ruled in
+    let y = flat_map_once rule_bits RuleFits itself rule_once k.rules l.rules r s long a.rules b.rules x.1 in
     let rules = same_rows k.rules l.rules y.0 in
     ((λ i. record { ends = x.0 i; rules = rules i }), y.1)
 
 -- how many parameters a task has
 params_at : (us : List Task) (t : ℕ) → length (get_or us t (record { params = []; name = [] })).params ≡ length (get_or (map (λ t. t.params) us) t [])
-params_at [] t = refl
-params_at (u ∷ us) zero = refl
-params_at (u ∷ us) (suc t) = params_at us t
+params_at us t = ap length (sym (get_or-map_same (λ t. t.params) us t (record { params = []; name = [] })))
 
 links_fit : (d : Description) (pss : List (List Param)) → map (λ t. t.params) d.tasks ≡ pss → Limits d → AllByRecursion (LinkFits (λ t. length (get_or pss t []))) d.links
 links_fit d pss same limits = All-weaker (LinkLimits d) (LinkFits (λ t. length (get_or pss t []))) fit d.links limits.each_link
@@ -118,13 +121,13 @@ links_fit d pss same limits = All-weaker (LinkLimits d) (LinkFits (λ t. length 
         let few = limits.few_tasks in
         let from = h.from_known in
         let to = h.to_known in
-        let sources = length (task_at d l.ends.from).params in
-        let most = params_few d.tasks limits.each_task l.ends.from in
+        let sources = length (task_at d l.ends.from.task).params in
+        let most = params_few d.tasks limits.each_task l.ends.from.task in
         record {
           ends = (omega arith, omega arith);
-          ruled = h.ruled ∙ params_at d.tasks l.ends.to ∙ ap (λ ps. length (get_or ps l.ends.to [])) same;
+          ruled = h.ruled ∙ params_at d.tasks l.ends.to.task ∙ ap (λ ps. length (get_or ps l.ends.to.task [])) same;
           rules = All-weaker (RuleLimits sources) RuleFits
-              (λ r g. record { pick = pick_small r.pick sources most g.picks; low = g.low; high = g.high; divisor = g.divisor }) l.rules h.rules;
+              (λ r g. record { pick = pick_few r.pick sources most g.picks; low = g.low; high = g.high; divisor = g.divisor }) l.rules h.rules;
         }
 
 tasks_same : (ts us : List Task) → length ts ≡ length us → map (λ t. t.params) ts ≡ map (λ t. t.params) us → map (λ t. t.name) ts ≡ map (λ t. t.name) us → ts ≡ us
@@ -162,15 +165,15 @@ written_once d e same dl el =
     let x0 = digits_once 4 1 1 (digits 6 (n d) ++ (digits 7 (m d) ++ (tasks d ++ (links d ++ dr)))) (digits 6 (n e) ++ (digits 7 (m e) ++ (tasks e ++ (links e ++ er)))) (omega arith) (omega arith) f in
     let x1 = digits_once 6 (n d) (n e) (digits 7 (m d) ++ (tasks d ++ (links d ++ dr))) (digits 7 (m e) ++ (tasks e ++ (links e ++ er))) (omega arith) (omega arith) x0.1 in
     let x2 = digits_once 7 (m d) (m e) (tasks d ++ (links d ++ dr)) (tasks e ++ (links e ++ er)) (omega arith) (omega arith) x1.1 in
-    let x3 = joined_once task_bits TaskLimits (λ t. t.params) task_once d.tasks e.tasks (links d ++ dr) (links e ++ er) x1.0 dl.each_task el.each_task x2.1 in
+    let x3 = flat_map_once task_bits TaskLimits (λ t. t.params) task_once d.tasks e.tasks (links d ++ dr) (links e ++ er) x1.0 dl.each_task el.each_task x2.1 in
     let pss = map (λ (t : Task). t.params) e.tasks in
     let k = λ (t : ℕ). length (get_or pss t []) in
-    let x4 = joined_once link_bits (LinkFits k) itself (link_once k) d.links e.links dr er x2.0 (links_fit d pss x3.0 dl) (links_fit e pss refl el) x3.1 in
+    let x4 = flat_map_once link_bits (LinkFits k) itself (link_once k) d.links e.links dr er x2.0 (links_fit d pss x3.0 dl) (links_fit e pss refl el) x3.1 in
     let long : length (front_bits d) ≡ length (front_bits e) =
     omega (arith, ap length same, ap length x4.1, length-append (front_bits d) dr, length-append (front_bits e) er) in
     let padded : pad d ≡ pad e = ap (λ n. replicate (to_byte_end n) 0) long in
     let left = append_cancel_left (pad d) (names d) (names e) (x4.1 ∙ ap (λ p. p ++ names e) (sym padded)) in
-    let x5 = joined_once name_bits TaskLimits (λ t. t.name) name_once d.tasks e.tasks [] [] x1.0 dl.each_task el.each_task (append-nil (names d) ∙ left ∙ sym (append-nil (names e))) in
+    let x5 = flat_map_once name_bits TaskLimits (λ t. t.name) name_once d.tasks e.tasks [] [] x1.0 dl.each_task el.each_task (append-nil (names d) ∙ left ∙ sym (append-nil (names e))) in
     let ts = tasks_same d.tasks e.tasks x1.0 x3.0 x5.0 in
     let ls = same_rows d.links e.links x4.0 in
     λ i. record { tasks = ts i; links = ls i }

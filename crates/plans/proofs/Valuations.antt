@@ -1,23 +1,24 @@
 -- The valuations of parameters: they are the tuples, each has a word of its own, and the rules give the same at either.
-use Rattle.std.proofs.Common.{◌≡◌, ℕ, zero, suc, ◌+◌, ◌-◌, ◌*◌, ◌/◌, ◌%◌, ◌<◌, ◌≤◌, cond, ◌||◌, ltb, List, [], ◌∷◌, ◌++◌, map, length, get_or, take, replicate, ℤ, pos, negsuc, ◌+ℤ◌, Some, None, sym, refl, ap, ◌∙◌, subst, inl, inr, mod-lt, arith}
+use Rattle.std.proofs.Common.{◌≡◌, ℕ, zero, suc, ◌+◌, ◌-◌, ◌*◌, ◌/◌, ◌%◌, ◌<◌, ◌≤◌, cond, ltb, List, [], ◌∷◌, ◌++◌, map, length, get_or, take, replicate, ℤ, pos, ◌+ℤ◌, Some, None, Option, sym, refl, ap, ◌∙◌, subst, mod-lt, arith}
+use Rattle.std.proofs.lemmas.Option.{slice_get-map, slice_get_within}
 use Rattle.std.specs.Option.{option_map}
 use Rattle.std.specs.List.{AllByRecursion, slice_get}
 use Rattle.std.specs.Int.Digits.{AllBelowBase}
 use Rattle.std.proofs.ByRecursion.{All-append}
 use Rattle.std.proofs.lemmas.List.{length-append, length-replicate, take_at}
-use Rattle.std.proofs.lemmas.Bool.{cases_Bool, or_parts, or_from, le-ltb, ltb-false}
+use Rattle.std.proofs.lemmas.Bool.{or_from, le-ltb}
 use Rattle.std.proofs.lemmas.Bool.Decides.{nat_tests}
 use Rattle.plans.specs.declared.param.Param.{Param}
 use Rattle.plans.specs.declared.rule.Rule.{Rule}
 use Rattle.plans.specs.Lists.{and_then}
 use Rattle.plans.specs.Words.{base, size, count, tuples, words, word_of, values_of, value_at, turn_of}
-use Rattle.plans.specs.Targets.{quotient, sum, in_range, value_for, values_for, target_at}
+use Rattle.plans.specs.Targets.{quotient, picked, sum, in_range, value_for, values_for, target_at}
 use Rattle.plans.specs.Layout.{no_param, filled, filled_by, no_rule}
 use Rattle.plans.specs.Ppo.{Valued}
 use Rattle.plans.specs.Description.{Range}
 use Rattle.plans.specs.Terms.{Domain, domains_of, Ruled, word_for}
-use Rattle.plans.proofs.Places.{nth_map, nth_within, mapped_some, place_in_found}
-use Rattle.plans.proofs.Mixed.{tuple_at, place_from, left_positive, right_positive, length_tuples, nth_tuples, tuple_of_place, and_then_some}
+use Rattle.plans.proofs.Places.{place_in_found, option_map_some, and_then_some, get_or_replicate_same}
+use Rattle.plans.proofs.Mixed.{tuple_at, place_from, left_positive, right_positive, length_tuples, slice_get-tuples, tuple_of_place}
 use Rattle.plans.proofs.Words.{values_of_word_of}
 use Rattle.plans.proofs.Filled.{unused_are_zero}
 use Rattle.plans.proofs.Targets.{target_at_word}
@@ -49,12 +50,12 @@ pub valued_at : (ps : List Param) (v : List ℕ) → Valued (domains_of ps) v �
 valued_at ps v h =
     let k = valued_place 0 ps v h in
     let t = tuple_of_place 0 ps v k.0 k.1 in
-    (t.0, nth_tuples ps t.0 t.1 ∙ ap Some (sym t.3))
+    (t.0, slice_get-tuples ps t.0 t.1 ∙ ap Some (sym t.3))
 
 tuple_is : (ps : List Param) (v : List ℕ) (i : ℕ) → slice_get (tuples ps) i ≡ Some v → (i < count ps) × (tuple_at ps i ≡ v)
 tuple_is ps v i e =
-    let h : i < count ps = omega (arith, nth_within (tuples ps) i v e, length_tuples ps) in
-    (h, (let n = nth_tuples ps i h in cc))
+    let h : i < count ps = omega (arith, slice_get_within (tuples ps) i v e, length_tuples ps) in
+    (h, (let n = slice_get-tuples ps i h in cc))
 
 pub valued_of : (ps : List Param) (v : List ℕ) (i : ℕ) → slice_get (tuples ps) i ≡ Some v → Valued (domains_of ps) v
 valued_of ps v i e = let t = tuple_is ps v i e in subst (Valued (domains_of ps)) t.1 (tuple_valued ps i (omega (arith, t.0)))
@@ -104,18 +105,17 @@ words_filled ps =
     ∙ same_map (λ v. word_of (v ++ zeros ps)) word_for (tuples ps) (λ i v e. sym (filled_word ps v (valued_of ps v i e)))
 
 -- a rule reads the same from a valuation and from one that is filled up
-zero_past : (k i : ℕ) → ◌≡◌ {A = ℕ} (get_or (replicate k 0) i 0) 0
-zero_past zero i = refl
-zero_past (suc k) zero = refl
-zero_past (suc k) (suc i) = zero_past k i
-
 get_or_filled : (v : List ℕ) (k i : ℕ) → get_or (v ++ replicate k 0) i 0 ≡ get_or v i 0
-get_or_filled [] k i = zero_past k i
+get_or_filled [] k i = get_or_replicate_same {X = ℕ} k 0 0 refl i
 get_or_filled (x ∷ v) k zero = refl
 get_or_filled (x ∷ v) k (suc i) = get_or_filled v k i
 
+picked_filled : (o : Option ℕ) (v : List ℕ) (k : ℕ) → picked o (v ++ replicate k 0) ≡ picked o v
+picked_filled None v k = refl
+picked_filled (Some i) v k = get_or_filled v k i
+
 sum_filled : (r : Rule) (v : List ℕ) (k : ℕ) → sum r (v ++ replicate k 0) ≡ sum r v
-sum_filled r v k = ap (λ n. pos (cond (ltb r.pick 4) n 0) +ℤ r.add) (get_or_filled v k r.pick)
+sum_filled r v k = ap (λ n. pos n +ℤ r.add) (picked_filled r.pick v k)
 
 pub ruled_filled : (rs : List Rule) (v w : List ℕ) (k : ℕ) → Ruled rs v w → Ruled rs (v ++ replicate k 0) w
 ruled_filled [] v [] k h = tt
@@ -134,16 +134,7 @@ in_range_lem : (p : Param) (n : ℕ) → Domain p n → in_range p (pos n) ≡ S
 in_range_lem p n h = ap (λ b. cond b None (Some n)) (or_from (ltb n p.low) (ltb p.high n) (le-ltb n p.low h.0) (le-ltb p.high n h.1))
 
 range_in : (p : Param) (z : ℤ) (n : ℕ) → in_range p z ≡ Some n → (z ≡ pos n) × Domain p n
-range_in p (negsuc m) n e = absurd (let z : ◌≡◌ {A = ℕ} 0 1 = cc in omega arith)
-range_in p (pos m) n e =
-    elim (cases_Bool (ltb m p.low || ltb p.high m)) [
-      | inl t ↦ absurd (let f = rw t at e in let z : ◌≡◌ {A = ℕ} 0 1 = cc in omega arith)
-      | inr t ↦
-          (let f = rw t at e in
-          let same : m ≡ n = cc in
-          let u = or_parts (ltb m p.low) (ltb p.high m) t in
-          (ap pos same, (omega (arith, ltb-false m p.low u.0), omega (arith, ltb-false p.high m u.1))))
-    ]
+range_in p z n e = grind (arith, nat_tests)
 
 no_value : (vs : List ℕ) → value_for no_rule no_param vs ≡ Some 0
 no_value vs = ap (in_range no_param) (quotient_pos 0 1)
@@ -173,7 +164,7 @@ given_values k (r ∷ rs) [] vs u n e = absurd (omega arith)
 given_values k (r ∷ rs) (p ∷ ps) vs u n e =
     let rest = values_for (rs ++ replicate k no_rule) (ps ++ replicate k no_param) vs in
     let a = and_then_some (value_for r p vs) (λ v. option_map (λ us. v ∷ us) rest) u e in
-    let b = mapped_some (λ us. a.0 ∷ us) rest u a.2 in
+    let b = option_map_some (λ us. a.0 ∷ us) rest u a.2 in
     let x = range_in p (quotient (sum r vs) r.divisor) a.0 a.1 in
     let w = given_values k rs ps vs b.0 (omega arith) b.1 in
     (a.0 ∷ w.0, sym b.2 ∙ ap (λ us. a.0 ∷ us) w.1, (x.0, w.2), (x.1, w.3))
@@ -184,7 +175,7 @@ module _ (ps ts : List Param) (rs : List Rule) (few : length ps ≤ 4) (ranges :
       ≡ option_map word_of (values_for (rs ++ replicate (4 - length ts) no_rule) (filled ts) (v ++ zeros ps))
   at_word v h =
       let i = valued_at ps v h in
-      let word : slice_get (words (filled ps)) i.0 ≡ Some (word_for v) = ap (λ ws. slice_get ws i.0) (words_filled ps) ∙ nth_map word_for (tuples ps) i.0 ∙ ap (option_map word_for) i.1 in
+      let word : slice_get (words (filled ps)) i.0 ≡ Some (word_for v) = ap (λ ws. slice_get ws i.0) (words_filled ps) ∙ slice_get-map word_for (tuples ps) i.0 ∙ ap (option_map word_for) i.1 in
       let found = place_in_found (words (filled ps)) (word_for v) i.0 word in
       target_at_word (filled ps) (filled ts) (filled_by no_rule rs) (word_for v) found.0 found.1
       ∙ (λ i. option_map word_of (values_for (rs ++ replicate (4 - ruled i) no_rule) (filled ts) (values_told ps v few ranges h i)))
@@ -200,6 +191,6 @@ module _ (ps ts : List Param) (rs : List Rule) (few : length ps ≤ 4) (ranges :
       → (w : List ℕ) × Valued (domains_of ts) w × Ruled rs v w × (word_for w ≡ n)
   given_target v n h e =
       let rest = values_for (rs ++ replicate (4 - length ts) no_rule) (filled ts) (v ++ zeros ps) in
-      let m = mapped_some word_of rest n (sym (at_word v h) ∙ e) in
+      let m = option_map_some word_of rest n (sym (at_word v h) ∙ e) in
       let w = given_values (4 - length ts) rs ts (v ++ zeros ps) m.0 ruled m.1 in
       (w.0, w.3, ruled_bare rs v w.0 (4 - length ps) w.2, filled_word ts w.0 w.3 ∙ ap word_of (sym w.1) ∙ m.2)

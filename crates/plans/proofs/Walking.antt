@@ -1,33 +1,20 @@
 -- Steps along the words of a plan's tasks, in the order that the plan describes.
-use Rattle.std.proofs.Common.{◌≡◌, ℕ, zero, suc, ◌+◌, ◌-◌, ◌<◌, ◌≤◌, List, [], ◌∷◌, length, get_or, Some, None, sym, refl, ap, ◌∙◌, subst, ⊎_elim, arith}
+use Rattle.std.proofs.Common.{◌≡◌, ℕ, zero, suc, ◌+◌, ◌-◌, ◌<◌, ◌≤◌, List, [], ◌∷◌, length, get_or, Some, sym, refl, ap, ◌∙◌, arith}
 use Rattle.std.specs.List.{slice_get}
-use Rattle.std.proofs.lemmas.List.{get_or_past}
-use Rattle.std.proofs.lemmas.Option.{slice_get-get_or}
-use Rattle.std.proofs.lemmas.Bool.{cases_lt}
-use Rattle.plans.specs.declared.ends.Side.TheVariants.{Start, Finish}
+use Rattle.std.proofs.lemmas.Option.{slice_get-get_or, slice_get_within, same_Some, gets}
+use Rattle.plans.specs.declared.ends.Side.TheVariants.{Finish}
 use Rattle.plans.specs.Plan.{Plan, Link, task_count, link_count, words_of, word_at}
-use Rattle.plans.specs.Ppo.{start, end, Next, Steps, Upto}
-use Rattle.plans.specs.Orders.{Edge, turn, link, Has, leaves, enters, link_of, no_reply, Turns, Given, Single, order_of}
-use Rattle.plans.proofs.Places.{nth_within}
-
-pub some_eq : {A : Type 0} (x y : A) → Some x ≡ Some y → x ≡ y
-some_eq x y e = cc
-
-pub none_some : {A : Type 0} (x : A) → None ≡ Some x → ⊥
-none_some x e = let z : ◌≡◌ {A = ℕ} 0 1 = cc in omega arith
+use Rattle.plans.specs.Ppo.{Next, Steps, Upto}
+use Rattle.plans.specs.Orders.{turn, link_of, no_reply, Turns, Single, order_of}
+use Rattle.std.proofs.lemmas.Grind.{common_steps}
+use Rattle.std.proofs.lemmas.Bool.Decides.{nat_tests}
 
 pub single_eq : (v w : ℕ) → v ∷ [] ≡ w ∷ [] → v ≡ w
 single_eq v w e = cc
 
-pub start_end : Start ≡ Finish → ⊥
-start_end e = let z : ◌≡◌ {A = ℕ} 0 1 = cc in omega arith
-
 -- a task that has a word is known
 pub word_known : (p : Plan) (t i w : ℕ) → word_at p t i ≡ Some w → t < task_count p
-word_known p t i w e =
-    ⊎_elim (λ below. below)
-    (λ above. absurd (none_some w (sym (ap (λ ws. slice_get ws i) (get_or_past p.tasks t [] above)) ∙ e)))
-    (cases_lt t (task_count p))
+word_known p t i w e = grind (arith, common_steps, gets)
 
 -- the word at a place
 pub word_at_lem : (p : Plan) (t i : ℕ) → i < length (words_of p t) → word_at p t i ≡ Some (get_or (words_of p t) i 0)
@@ -38,9 +25,7 @@ pub link_at_lem : (p : Plan) (l : ℕ) → l < link_count p → slice_get p.link
 link_at_lem p l h = slice_get-get_or p.links l no_reply h
 
 pub link_is : (p : Plan) (l : ℕ) (k : Link) → slice_get p.links l ≡ Some k → (l < link_count p) × (link_of p l ≡ k)
-link_is p l k e =
-    let h = nth_within p.links l k e in
-    (h, some_eq (link_of p l) k (sym (link_at_lem p l h) ∙ e))
+link_is p l k e = grind (arith, common_steps, gets)
 
 -- from a word to the next one
 pub next_from : (p : Plan) (t i v w : ℕ) → word_at p t i ≡ Some v → word_at p t (i + 1) ≡ Some w → Next (order_of p) t (v ∷ []) (w ∷ [])
@@ -50,9 +35,9 @@ next_from p t i v w e f =
 pub walk : (p : Plan) (t n i v w : ℕ) → word_at p t i ≡ Some v → word_at p t (i + n) ≡ Some w → Steps (order_of p) t n (v ∷ []) (w ∷ [])
 walk p t zero i v w e f =
     let same : i ≡ i + 0 = omega arith in
-    ap (λ x. x ∷ []) (some_eq v w (sym e ∙ ap (slice_get (words_of p t)) same ∙ f))
+    ap (λ x. x ∷ []) (same_Some v w (sym e ∙ ap (slice_get (words_of p t)) same ∙ f))
 walk p t (suc n) i v w e f =
-    let room : i + 1 < length (words_of p t) = omega (arith, nth_within (words_of p t) (i + suc n) w f) in
+    let room : i + 1 < length (words_of p t) = omega (arith, slice_get_within (words_of p t) (i + suc n) w f) in
     let x = get_or (words_of p t) (i + 1) 0 in
     let there = word_at_lem p t (i + 1) room in
     let same : i + 1 + n ≡ i + suc n = omega arith in
@@ -65,19 +50,13 @@ upto p t i j v w le e f =
 
 -- where no link joins a task to itself
 abbrev pub Alone : Plan → Type 0
-Alone p = (l : ℕ) → l < link_count p → (link_of p l).ends.from ≡ (link_of p l).ends.to → ⊥
+Alone p = (l : ℕ) → l < link_count p → (link_of p l).ends.from.task ≡ (link_of p l).ends.to.task → ⊥
 
 abbrev pub Differ : Plan → Type 0
 Differ p = (t i j w : ℕ) → word_at p t i ≡ Some w → word_at p t j ≡ Some w → i ≡ j
 
 pub next_is : (p : Plan) → Alone p → (t : ℕ) (vs ws : List ℕ) → Next (order_of p) t vs ws → Single (Turns p t Finish) vs ws
-next_is p alone t vs ws (j, s) = by j.edge j.has j.from j.to s
-  where
-    by : (e : Edge) → Has (task_count p) (link_count p) e → leaves (λ l. (link_of p l).ends) e ≡ end t → enters (λ l. (link_of p l).ends) e ≡ start t
-        → Single (Given p e) vs ws → Single (Turns p t Finish) vs ws
-    by (turn u Start) h f g s = absurd (start_end (ap (λ x. x.side) f))
-    by (turn u Finish) h f g s = subst (λ x. Single (Turns p x Finish) vs ws) (ap (λ x. x.task) f) s
-    by (link l) h f g s = absurd (alone l h (ap (λ x. x.task) f ∙ sym (ap (λ x. x.task) g)))
+next_is p alone t vs ws h5 = grind (arith, nat_tests)
 
 -- the place of the word that a walk sets out from
 pub walked : (p : Plan) → Alone p → Differ p → (t n j w : ℕ) (vs : List ℕ) → Steps (order_of p) t n vs (w ∷ []) → word_at p t j ≡ Some w

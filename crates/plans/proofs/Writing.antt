@@ -1,7 +1,7 @@
 -- A record that is read is the writing of a description.
-use Rattle.std.proofs.Common.{◌≡◌, ℕ, zero, suc, ◌*◌, eqb, List, [], ◌∷◌, ◌++◌, map, length, get_or, drop, replicate, Ok, sym, refl, ap, ◌∙◌, subst, arith}
+use Rattle.std.proofs.Common.{◌≡◌, ℕ, suc, ◌*◌, eqb, List, [], ◌∷◌, ◌++◌, map, length, drop, replicate, Ok, sym, refl, ap, ◌∙◌, subst, arith}
 use Rattle.std.specs.List.{flat_map, AllByRecursion}
-use Rattle.std.proofs.lemmas.List.{append_assoc, append-nil, length-map, map-id, drop_all}
+use Rattle.std.proofs.lemmas.List.{append_assoc, append-nil, map-id, drop_all}
 use Rattle.std.proofs.ByRecursion.{All-weaker}
 use Rattle.std.proofs.lemmas.Bool.{eqb-true}
 use Rattle.bits.specs.Bits.{bits}
@@ -11,10 +11,9 @@ use Rattle.plans.specs.declared.param.Param.{Param}
 use Rattle.plans.specs.declared.rule.Rule.{Rule}
 use Rattle.plans.specs.declared.ends.Ends.{Ends}
 use Rattle.plans.specs.declared.shapes.Params.{Params}
-use Rattle.plans.specs.declared.shapes.Link as shapes
 use Rattle.plans.specs.declared.shapes.Counts.{Counts}
 use Rattle.plans.specs.Reads.{times}
-use Rattle.plans.specs.Layout.{Parts, filled_by, no_rule, task, task_of, link, to_byte_end, padding, name, counts, body, ended, parts, fields}
+use Rattle.plans.specs.Layout.{Parts, task, link, to_byte_end, padding, name, counts, body, ended, parts, fields}
 use Rattle.plans.specs.Description.{Task, Link, Description, task_bits, link_bits, name_bits, front_bits, written, TaskLimits, LinkLimits, Limits}
 use Rattle.plans.specs.Names.{IsName}
 use Rattle.plans.proofs.Parted.{shaped, Parted, Apart}
@@ -24,6 +23,9 @@ use Rattle.plans.proofs.Spelling.{Spells, spells_then}
 use Rattle.plans.proofs.Rows.{times_back}
 use Rattle.plans.proofs.Rereading.{itself, unless_back, params_bits, ParamsLimits, shape, task_back}
 use Rattle.plans.proofs.Rejoining.{link_seen, link_read, LinkGood, Alike, link_back, padding_back, letters_bits, unseen, name_back, counts_bits, counts_back}
+use mathlib.Core.List.{map-map}
+use Rattle.std.proofs.lemmas.Grind.{common_steps}
+use Rattle.std.proofs.lemmas.Option.{gets}
 
 -- tasks from their parameters and their names
 record Tasked (pss : List (List Param)) (nss : List (List ℕ)) (ts : List Task) : Type 0 where
@@ -52,17 +54,8 @@ tasked (ps ∷ pss) (ns ∷ nss) long a b =
       },
     )
 
--- the tasks that are read have as many parameters as the tasks that were written
-used_at : (us : List Task) (t : ℕ) → (task_of (map shaped us) t).used ≡ length (get_or us t (record { params = []; name = [] })).params
-used_at [] t = refl
-used_at (u ∷ us) zero = refl
-used_at (u ∷ us) (suc t) = used_at us t
-
 pub alike : (ts : List Params) (d : Description) → ts ≡ map shaped d.tasks → Alike ts d
-alike ts d same = record {
-  long = ap length same ∙ length-map d.tasks shaped;
-  used = λ t. ap (λ ts. (task_of ts t).used) same ∙ used_at d.tasks t;
-}
+alike ts d same = grind (arith, common_steps, gets)
 
 -- a link's limits hang on the tasks alone
 relimit : (ts : List Task) (ks ls : List Link) (l : Link) → LinkLimits (record { tasks = ts; links = ks }) l → LinkLimits (record { tasks = ts; links = ls }) l
@@ -71,25 +64,9 @@ relimit ts ks ls l h = record { from_known = h.from_known; to_known = h.to_known
 pub parted_by : (q : Parts) (d : Description) → q.tasks ≡ map shaped d.tasks → map link_seen d.links ≡ map link_read q.links → Parted q d
 parted_by q d ts ls = record {
   tasks = ts;
-  ends = read_ends q.links ∙ ap (map (λ (r : Ends × List Rule). r.0)) (sym ls) ∙ sym (seen_ends d.links);
-  rules = read_rules q.links ∙ ap (map (λ (r : Ends × List Rule). r.1)) (sym ls) ∙ sym (seen_rules d.links);
+  ends = sym (map-map (λ (r : Ends × List Rule). r.0) link_read q.links) ∙ ap (map (λ (r : Ends × List Rule). r.0)) (sym ls) ∙ map-map (λ (r : Ends × List Rule). r.0) link_seen d.links;
+  rules = sym (map-map (λ (r : Ends × List Rule). r.1) link_read q.links) ∙ ap (map (λ (r : Ends × List Rule). r.1)) (sym ls) ∙ map-map (λ (r : Ends × List Rule). r.1) link_seen d.links;
 }
-  where
-    read_ends : (ls : List shapes.Link) → map (λ l. l.ends) ls ≡ map (λ (r : Ends × List Rule). r.0) (map link_read ls)
-    read_ends [] = refl
-    read_ends (l ∷ ls) = ap (λ r. l.ends ∷ r) (read_ends ls)
-
-    read_rules : (ls : List shapes.Link) → map (λ l. l.rules) ls ≡ map (λ (r : Ends × List Rule). r.1) (map link_read ls)
-    read_rules [] = refl
-    read_rules (l ∷ ls) = ap (λ r. l.rules ∷ r) (read_rules ls)
-
-    seen_ends : (ls : List Link) → map (λ l. l.ends) ls ≡ map (λ (r : Ends × List Rule). r.0) (map link_seen ls)
-    seen_ends [] = refl
-    seen_ends (l ∷ ls) = ap (λ r. l.ends ∷ r) (seen_ends ls)
-
-    seen_rules : (ls : List Link) → map (λ l. filled_by no_rule l.rules) ls ≡ map (λ (r : Ends × List Rule). r.1) (map link_seen ls)
-    seen_rules [] = refl
-    seen_rules (l ∷ ls) = ap (λ r. filled_by no_rule l.rules ∷ r) (seen_rules ls)
 
 -- what the body of a record says, from a place to another
 record Bodied (s : List ℕ) (n : Counts) (at : ℕ) (q : Parts) (end : ℕ) (d : Description) : Type 0 where
@@ -128,7 +105,7 @@ body_back bs n at x h =
         links = nb.1;
         each_task = us.1.limits;
         each_link = All-weaker (LinkGood d0) (LinkLimits d) (λ l g. relimit us.0 [] nb.0 l g.0) nb.0 nb.2;
-        apart = All-weaker (LinkGood d0) (λ l. l.ends.from ≡ l.ends.to → ⊥) (λ l g. g.1) nb.0 nb.2;
+        apart = All-weaker (LinkGood d0) (λ l. l.ends.from.task ≡ l.ends.to.task → ⊥) (λ l g. g.1) nb.0 nb.2;
         parted = parted_by (record { tasks = ts; links = b.0.0; names = e.0.0 }) d same nb.3;
         mid = b.0.1;
         front = spells_then s (flat_map task_bits us.0) (flat_map link_bits nb.0) at a.0.1 b.0.1 first nb.4;

@@ -1,11 +1,12 @@
 -- What a packed record describes: tasks with parameters and names, and links with rules; and how it is written.
-use Rattle.std.specs.Prelude.{◌≡◌, ℕ, ◌+◌, ◌-◌, ◌^◌, ◌<◌, ◌≤◌, cond, ◌⊎◌, List, [], ◌++◌, length, replicate, ℤ, pos, negsuc, ◌≤ℤ◌, slice_index_or}
+use Rattle.std.specs.Prelude.{◌≡◌, ℕ, ◌+◌, ◌-◌, ◌^◌, ◌<◌, ◌≤◌, cond, List, [], ◌++◌, length, replicate, Some, None, IfSome, Option, ℤ, pos, negsuc, ◌≤ℤ◌, slice_index_or}
 use Rattle.std.specs.List.{flat_map, AllByRecursion}
 use Rattle.bits.specs.Bits.{digits}
 use Rattle.plans.specs.declared.param.Param.{Param}
 use Rattle.plans.specs.declared.rule.Rule.{Rule}
 use Rattle.plans.specs.declared.ends.Side.{Side}
 use Rattle.plans.specs.declared.ends.Side.TheVariants.{Start, Finish}
+use Rattle.plans.specs.declared.ends.EventType.{EventType}
 use Rattle.plans.specs.declared.ends.Ends.{Ends}
 use Rattle.plans.specs.Words.{base, most_words, count}
 use Rattle.plans.specs.Layout.{to_byte_end}
@@ -36,15 +37,23 @@ abbrev pub complement : ℕ → ℤ → ℕ
 complement width (pos n) = n
 complement width (negsuc n) = 2 ^ width - (n + 1)
 
+-- what is picked, as a number; 4 where nothing is
+abbrev pub pick_number : Option ℕ → ℕ
+pick_number None = 4
+pick_number (Some n) = n
+
 abbrev pub rule_bits : Rule → List ℕ
-rule_bits r = digits 3 r.pick ++ (digits 9 (complement 9 r.add) ++ digits 4 r.divisor)
+rule_bits r = digits 3 (pick_number r.pick) ++ (digits 9 (complement 9 r.add) ++ digits 4 r.divisor)
 
 abbrev pub side_bit : Side → ℕ
 side_bit Start = 0
 side_bit Finish = 1
 
+abbrev pub event_type_bits : EventType → List ℕ
+event_type_bits a = digits 5 a.task ++ digits 1 (side_bit a.side)
+
 abbrev pub ends_bits : Ends → List ℕ
-ends_bits e = digits 5 e.from ++ (digits 1 (side_bit e.from_side) ++ (digits 5 e.to ++ digits 1 (side_bit e.to_side)))
+ends_bits e = event_type_bits e.from ++ event_type_bits e.to
 
 abbrev pub link_bits : Link → List ℕ
 link_bits l = ends_bits l.ends ++ flat_map rule_bits l.rules
@@ -75,7 +84,7 @@ pub record TaskLimits (t : Task) : Type 0 where
 
 -- a rule, where the from task has so many parameters
 pub record RuleLimits (sources : ℕ) (r : Rule) : Type 0 where
-  pub picks : (r.pick < sources) ⊎ (r.pick ≡ 4)
+  pub picks : IfSome r.pick (λ n. n < sources)
   pub low : negsuc 255 ≤ℤ r.add
   pub high : r.add ≤ℤ pos 255
   pub divides : 1 ≤ r.divisor
@@ -86,10 +95,10 @@ abbrev pub task_at : Description → ℕ → Task
 task_at d t = slice_index_or d.tasks t (record { params = []; name = [] })
 
 pub record LinkLimits (d : Description) (l : Link) : Type 0 where
-  pub from_known : l.ends.from < length d.tasks
-  pub to_known : l.ends.to < length d.tasks
-  pub ruled : length l.rules ≡ length (task_at d l.ends.to).params
-  pub rules : AllByRecursion (RuleLimits (length (task_at d l.ends.from).params)) l.rules
+  pub from_known : l.ends.from.task < length d.tasks
+  pub to_known : l.ends.to.task < length d.tasks
+  pub ruled : length l.rules ≡ length (task_at d l.ends.to.task).params
+  pub rules : AllByRecursion (RuleLimits (length (task_at d l.ends.from.task).params)) l.rules
 
 pub record Limits (d : Description) : Type 0 where
   pub some_tasks : 1 ≤ length d.tasks

@@ -12,7 +12,7 @@ OfPlan p e = (i : ℕ) × (place_of p e.task e.word ≡ Some i)
 
 -- the two ends of a link from the event d to the event e
 abbrev pub between : Event → Event → Ends
-between d e = record { from = d.task; from_side = d.side; to = e.task; to_side = e.side }
+between d e = record { from = record { task = d.task; side = d.side }; to = record { task = e.task; side = e.side } }
 
 -- `Rests p e d`: the event e rests on the event d.
 pub data Rests (p : Plan) (e d : Event) : Type 0 where

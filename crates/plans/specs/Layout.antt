@@ -1,11 +1,12 @@
 -- The layout of a packed record: its fields in their order, each as a read, with the fault that it may have.
-use Rattle.std.specs.Prelude.{ℕ, ◌-◌, ◌*◌, ◌/◌, ◌%◌, ◌^◌, Bool, false, cond, not, ◌&&◌, ◌||◌, nat_lt, nat_le, List, [], ◌++◌, length, replicate, ℤ, pos, ◌-ℤ◌, Ok, Result, ◌==◌, nat_eq, slice_index_or}
+use Rattle.std.specs.Prelude.{ℕ, ◌-◌, ◌*◌, ◌/◌, ◌%◌, ◌^◌, Bool, false, cond, not, ◌&&◌, ◌||◌, nat_lt, nat_le, List, [], ◌++◌, length, replicate, ℤ, pos, ◌-ℤ◌, Some, None, Ok, Option, Result, ◌==◌, nat_eq, slice_index_or}
 use Rattle.plans.specs.declared.fault.Fault.{Fault}
 use Rattle.plans.specs.declared.fault.Kind.TheVariants as kind
 use Rattle.plans.specs.declared.param.Param.{Param}
 use Rattle.plans.specs.declared.rule.Rule.{Rule}
 use Rattle.plans.specs.declared.ends.Side.{Side}
 use Rattle.plans.specs.declared.ends.Side.TheVariants.{Start, Finish}
+use Rattle.plans.specs.declared.ends.EventType.{EventType}
 use Rattle.plans.specs.declared.ends.Ends.{Ends}
 use Rattle.plans.specs.declared.shapes.Params.{Params}
 use Rattle.plans.specs.declared.shapes.Link.{Link}
@@ -49,25 +50,31 @@ task bs at =
 abbrev pub twos : ℕ → ℕ → ℤ
 twos width n = cond (nat_lt n (2 ^ (width - 1))) (pos n) (pos n -ℤ pos (2 ^ width))
 
+-- what a number picks: the number 4 picks nothing
+abbrev pub pick_of : ℕ → Option ℕ
+pick_of n = cond (n == 4) None (Some n)
+
 -- the rule for one parameter of the to task, where the from task has so many parameters
 abbrev pub rule : List ℕ → ℕ → Read Rule
 rule bs sources =
     next (number_that bs 3 (λ pick. nat_lt pick sources || pick == 4) kind.Rule) (λ pick. next (number bs 9) (λ add.
     next (number_that bs 4 (λ divisor. nat_lt 0 divisor) kind.Rule) (λ divisor.
-    give (record { pick = pick; add = twos 9 add; divisor = divisor }))))
+    give (record { pick = pick_of pick; add = twos 9 add; divisor = divisor }))))
 
 -- the rule for a parameter that the to task lacks gives 0
 abbrev pub no_rule : Rule
-no_rule = record { pick = 4; add = pos 0; divisor = 1 }
+no_rule = record { pick = None; add = pos 0; divisor = 1 }
 
 abbrev pub side_of : ℕ → Side
 side_of n = cond (n == 1) Finish Start
 
+-- an event type: a task and a side
+abbrev pub event_type : List ℕ → Read EventType
+event_type bs = next (number bs 5) (λ task. next (number bs 1) (λ side. give (record { task = task; side = side_of side })))
+
 -- the two ends of a link
 abbrev pub ends : List ℕ → Read Ends
-ends bs =
-    next (number bs 5) (λ from. next (number bs 1) (λ s. next (number bs 5) (λ to. next (number bs 1) (λ t.
-    give (record { from = from; from_side = side_of s; to = to; to_side = side_of t })))))
+ends bs = next (event_type bs) (λ from. next (event_type bs) (λ to. give (record { from = from; to = to })))
 
 abbrev pub no_task : Params
 no_task = record { each = []; used = 0 }
@@ -77,13 +84,13 @@ task_of tasks t = slice_index_or tasks t no_task
 
 -- each end is in one of n tasks, and they are in two
 abbrev pub join : ℕ → Ends → Bool
-join n e = nat_lt e.from n && nat_lt e.to n && not (e.from == e.to)
+join n e = nat_lt e.from.task n && nat_lt e.to.task n && not (e.from.task == e.to.task)
 
 -- a link: bad ends are a fault of the link, found when both are read; then come the rules, one a parameter of the to task
 abbrev pub link : List ℕ → List Params → Read Link
 link bs tasks at =
     next (ends bs) (λ e. next (unless (join (length tasks) e) kind.Ends at) (λ _.
-    next (times (task_of tasks e.to).used (rule bs (task_of tasks e.from).used)) (λ rules.
+    next (times (task_of tasks e.to.task).used (rule bs (task_of tasks e.from.task).used)) (λ rules.
     give (record { ends = e; rules = filled_by no_rule rules; begins = at })))) at
 
 -- how many bits there are up to the end of the byte

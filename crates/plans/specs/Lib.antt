@@ -1,7 +1,9 @@
+pub mod Row
 pub mod Lists
 pub mod Words
 pub mod Targets
 pub mod Faults
+pub mod Text
 pub mod Reads
 pub mod Layout
 pub mod Order
@@ -18,3 +20,4 @@ pub mod Ppo
 pub mod Orders
 pub mod Description
 pub mod Terms
+pub mod Unpacked

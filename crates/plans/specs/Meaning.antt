@@ -17,7 +17,7 @@ abbrev pub plan_link : List Params → shape.Link → Link
 plan_link ts l =
     record {
       ends = l.ends;
-      targets = map (target_at (task_of ts l.ends.from).each (task_of ts l.ends.to).each l.rules) (words (task_of ts l.ends.from).each);
+      targets = map (target_at (task_of ts l.ends.from.task).each (task_of ts l.ends.to.task).each l.rules) (words (task_of ts l.ends.from.task).each);
     }
 
 abbrev pub plan_of : Parts → Plan

@@ -29,6 +29,12 @@ rising least [] = true
 rising least (None ∷ os) = all_none os
 rising least (Some i ∷ os) = nat_le least i && rising i os
 
+-- whether a place may come after another, where each word has a place or none
+abbrev pub follows : Option ℕ → Option ℕ → Bool
+follows least None = true
+follows None (Some place) = false
+follows (Some least) (Some place) = nat_le least place
+
 -- the place of a link's target in the to task's words, and these places for all words of the from task
 abbrev pub place_of_target : List Param → List Param → List Rule → ℕ → Option ℕ
 place_of_target from to rules w = and_then (target_at from to rules w) (place_in (words to))
@@ -37,4 +43,4 @@ abbrev pub target_places : List Param → List Param → List Rule → List (Opt
 target_places from to rules = map (place_of_target from to rules) (words from)
 
 abbrev pub places_of : List Params → Link → List (Option ℕ)
-places_of ts l = target_places (task_of ts l.ends.from).each (task_of ts l.ends.to).each l.rules
+places_of ts l = target_places (task_of ts l.ends.from.task).each (task_of ts l.ends.to.task).each l.rules

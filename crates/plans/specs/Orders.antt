@@ -7,7 +7,8 @@ use Rattle.plans.specs.declared.ends.Ends.{Ends}
 use Rattle.plans.specs.declared.event.Event.{Event}
 use Rattle.plans.specs.Plan.{Plan, Link, Keeps, task_count, link_count, words_of, word_at}
 use Rattle.plans.specs.Events.{OfPlan, Rests}
-use Rattle.plans.specs.Ppo.{EventType, Structure, Ppo, Restricted, Precedes}
+use Rattle.plans.specs.declared.ends.EventType.{EventType}
+use Rattle.plans.specs.Ppo.{Structure, Ppo, Restricted, Precedes}
 
 -- the edges: in a task from one side to the other, and a link by its number
 pub data Edge : Type 0 where
@@ -18,15 +19,8 @@ abbrev pub other : Side → Side
 other Start = Finish
 other Finish = Start
 
--- the event types that a link joins
-abbrev pub from_type : Ends → EventType
-from_type e = record { task = e.from; side = e.from_side }
-
-abbrev pub to_type : Ends → EventType
-to_type e = record { task = e.to; side = e.to_side }
-
 abbrev pub no_ends : Ends
-no_ends = record { from = 0; from_side = Start; to = 0; to_side = Start }
+no_ends = record { from = record { task = 0; side = Start }; to = record { task = 0; side = Start } }
 
 -- which edges there are among so many tasks and links, and what they join
 abbrev pub Has : ℕ → ℕ → Edge → Type 0
@@ -35,11 +29,11 @@ Has tasks links (link l) = l < links
 
 abbrev pub leaves : (ℕ → Ends) → Edge → EventType
 leaves ends (turn t s) = record { task = t; side = s }
-leaves ends (link l) = from_type (ends l)
+leaves ends (link l) = (ends l).from
 
 abbrev pub enters : (ℕ → Ends) → Edge → EventType
 enters ends (turn t s) = record { task = t; side = other s }
-enters ends (link l) = to_type (ends l)
+enters ends (link l) = (ends l).to
 
 -- the links of a plan
 abbrev pub no_reply : Link
@@ -59,7 +53,7 @@ Turns p t Finish v w = (i : ℕ) × (word_at p t i ≡ Some v) × (word_at p t (
 
 -- a link: its reply at the word's place
 abbrev pub Replies : Plan → Link → ℕ → ℕ → Type 0
-Replies p k v w = (i : ℕ) × (word_at p k.ends.from i ≡ Some v) × (slice_get k.targets i ≡ Some (Some w))
+Replies p k v w = (i : ℕ) × (word_at p k.ends.from.task i ≡ Some v) × (slice_get k.targets i ≡ Some (Some w))
 
 abbrev pub Given : Plan → Edge → ℕ → ℕ → Type 0
 Given p (turn t s) v w = Turns p t s v w
@@ -87,7 +81,7 @@ pub record Within (p : Plan) : Type 0 where
   pub few_words : (t : ℕ) → length (words_of p t) ≤ 65536
   pub narrow : (t i w : ℕ) → word_at p t i ≡ Some w → w < 2 ^ 32
   pub few_links : link_count p ≤ 4096
-  pub replies : (l : ℕ) (k : Link) → slice_get p.links l ≡ Some k → length k.targets ≡ length (words_of p k.ends.from)
+  pub replies : (l : ℕ) (k : Link) → slice_get p.links l ≡ Some k → length k.targets ≡ length (words_of p k.ends.from.task)
 
 -- within its limits, what a plan describes is a restricted parametrized partial order
 pub record Describes (p : Plan) : Type 0 where

@@ -47,24 +47,24 @@ link_ends p l = option_map (λ k. k.ends) (slice_get p.links l)
 
 -- what a link gives at a word of its from task
 abbrev pub gives : Plan → Link → ℕ → Option ℕ
-gives p k w = and_then (place_of p k.ends.from w) (λ i. option_flatten (slice_get k.targets i))
+gives p k w = and_then (place_of p k.ends.from.task w) (λ i. option_flatten (slice_get k.targets i))
 
 abbrev pub target : Plan → ℕ → ℕ → Option ℕ
 target p l w = and_then (slice_get p.links l) (λ k. gives p k w)
 
 -- the rules of a link of a plan
 pub record KeepsLink (p : Plan) (k : Link) : Type 0 where
-  pub from_known : k.ends.from < task_count p
-  pub to_known : k.ends.to < task_count p
-  pub apart : k.ends.from ≡ k.ends.to → ⊥
-  pub replies : length k.targets ≡ length (words_of p k.ends.from)
+  pub from_known : k.ends.from.task < task_count p
+  pub to_known : k.ends.to.task < task_count p
+  pub apart : k.ends.from.task ≡ k.ends.to.task → ⊥
+  pub replies : length k.targets ≡ length (words_of p k.ends.from.task)
   -- each target is a word of the to task
-  pub lands : (i w : ℕ) → slice_get k.targets i ≡ Some (Some w) → is_some (place_of p k.ends.to w) ≡ true
+  pub lands : (i w : ℕ) → slice_get k.targets i ≡ Some (Some w) → is_some (place_of p k.ends.to.task w) ≡ true
   -- where a word has no target, no later word has one
   pub first_ones : (i j w : ℕ) → i ≤ j → slice_get k.targets i ≡ Some None → slice_get k.targets j ≢ Some (Some w)
   -- from word to word the targets never go back
   pub in_order : (i j v w a b : ℕ) → i ≤ j → slice_get k.targets i ≡ Some (Some v) → slice_get k.targets j ≡ Some (Some w)
-      → place_of p k.ends.to v ≡ Some a → place_of p k.ends.to w ≡ Some b → a ≤ b
+      → place_of p k.ends.to.task v ≡ Some a → place_of p k.ends.to.task w ≡ Some b → a ≤ b
 
 pub record Keeps (p : Plan) : Type 0 where
   pub few_tasks : task_count p ≤ 64
@@ -102,11 +102,6 @@ keeps_prop p x y =
       ends_differ = λ l m j k g h d. Coded-set coded_ℕ _ _ (x.ends_differ l m j k g h d) (y.ends_differ l m j k g h d) e;
     }
 
--- a plan, with the proof that it keeps the rules
-pub record Lawful : Type 0 where
-  pub plan : Plan
-  pub keeps : Keeps plan
-
--- from a proof that is only known to exist
-abbrev pub lawful : (p : Plan) → ∥ Keeps p ∥₁ → Lawful
-lawful p t = record { plan = p; keeps = ∥∥₁_elim t (keeps_prop p) (λ x. x) }
+-- the proof, where one is known to exist
+abbrev pub kept : {p : Plan} → ∥ Keeps p ∥₁ → Keeps p
+kept {p} t = ∥∥₁_elim t (keeps_prop p) (λ x. x)

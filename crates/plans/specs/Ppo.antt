@@ -1,12 +1,7 @@
 -- Parametrized partial orders, and the restricted ones among them, in general terms.
 use Rattle.std.specs.Prelude.{◌≡◌, ℕ, zero, suc, ◌<◌, List, [], ◌∷◌, ◌≢◌}
-use Rattle.plans.specs.declared.ends.Side.{Side}
+use Rattle.plans.specs.declared.ends.EventType.{EventType}
 use Rattle.plans.specs.declared.ends.Side.TheVariants.{Start, Finish}
-
--- the starts, or the ends, of a task's instances
-pub record EventType : Type 0 where
-  pub task : ℕ
-  pub side : Side
 
 abbrev pub start : ℕ → EventType
 start t = record { task = t; side = Start }

@@ -1,6 +1,7 @@
 -- Reads one after another, each from a bit on.
-use Rattle.std.specs.Prelude.{◌≡◌, ℕ, zero, suc, ◌+◌, Bool, cond, List, [], ◌∷◌, length, take, drop, Ok, Err, Result}
+use Rattle.std.specs.Prelude.{◌≡◌, ℕ, zero, suc, ◌+◌, Bool, cond, List, [], ◌∷◌, Ok, Err, Result}
 use Rattle.bits.specs.declared.Fault as bit
+use Rattle.bits.specs.declared.Reader.{Reader}
 use Rattle.bits.specs.Fields.{field_at}
 use Rattle.plans.specs.declared.fault.Kind.{Kind}
 use Rattle.plans.specs.declared.fault.Fault.{Fault}
@@ -13,11 +14,6 @@ Read A = ℕ → Result (A × ℕ) Fault
 abbrev pub on_ok : {A B : Type 0} → Result A Fault → (A → Result B Fault) → Result B Fault
 on_ok (Ok x) f = f x
 on_ok (Err e) f = Err e
-
--- what a call that reads from one bit to another answers
-abbrev pub Reads : {A : Type 0} → Read A → ℕ → Result A Fault → ℕ → Type 0
-Reads m at (Ok x) end = m at ≡ Ok (x, end)
-Reads m at (Err e) end = m at ≡ Err e
 
 -- one read after another
 abbrev pub next : {A B : Type 0} → Read A → (A → Read B) → Read B
@@ -48,7 +44,15 @@ number bs width at = lifted (field_at bs at width) (at + width)
 abbrev pub number_that : List ℕ → ℕ → (ℕ → Bool) → Kind → Read ℕ
 number_that bs width test kind at = next (number bs width) (λ n. next (unless (test n) kind at) (λ _. give n)) at
 
--- what a call that fills the first n elements of a row answers: these are read, and the others are as they were
-abbrev pub ReadsInto : {A B : Type 0} → ℕ → Read A → ℕ → List A → List A → Result B Fault → ℕ → Type 0
-ReadsInto n m at old new (Ok x) end = (times n m at ≡ Ok (take n new, end)) × (drop n new ≡ drop n old) × (length new ≡ length old)
-ReadsInto n m at old new (Err e) end = (times n m at ≡ Err e) × (length new ≡ length old)
+-- a call answers what is defined, seen by f, or its fault
+abbrev pub Gives : {A B : Type 0} → (B → A) → Result A Fault → Result B Fault → Type 0
+Gives f m (Ok x) = m ≡ Ok (f x)
+Gives f m (Err e) = m ≡ Err e
+
+-- what a call that reads answers: what is read from the reader's bit on, seen by f, and a reader of the same bytes behind it
+abbrev pub ReadsAs : {A B : Type 0} → (B → A) → (List ℕ → Read A) → Reader → Result B Fault → Reader → Type 0
+ReadsAs f m old r new = (new.bytes.now ≡ old.bytes.now) × Gives (λ x. (f x, new.at)) (m old.bytes.now old.at) r
+
+-- the same of a part that is seen as it is
+abbrev pub Reads : {A : Type 0} → (List ℕ → Read A) → Reader → Result A Fault → Reader → Type 0
+Reads m old r new = ReadsAs (λ x. x) m old r new

@@ -22,7 +22,7 @@ first_below test (suc n) = option_or (first_below test n) (cond (test n) (Some n
 -- a link by its number
 abbrev pub no_link : Link
 no_link =
-    record { ends = record { from = 0; from_side = Start; to = 0; to_side = Start }; rules = []; begins = 0 }
+    record { ends = record { from = record { task = 0; side = Start }; to = record { task = 0; side = Start } }; rules = []; begins = 0 }
 
 abbrev pub link_at : List Link → ℕ → Link
 link_at ls j = slice_index_or ls j no_link
@@ -36,7 +36,7 @@ same_side Finish Finish = true
 
 abbrev pub same_ends : Ends → Ends → Bool
 same_ends a b =
-    (a.from == b.from) && (same_side a.from_side b.from_side && (a.to == b.to && same_side a.to_side b.to_side))
+    (a.from.task == b.from.task) && (same_side a.from.side b.from.side && (a.to.task == b.to.task && same_side a.to.side b.to.side))
 
 -- an earlier link has the same ends
 abbrev pub repeats : List Link → ℕ → Bool

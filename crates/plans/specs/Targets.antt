@@ -1,5 +1,5 @@
 -- What a link gives at a word.
-use Rattle.std.specs.Prelude.{◌≡◌, ℕ, Bool, true, cond, ◌&&◌, ◌||◌, List, [], ◌∷◌, ℤ, pos, negsuc, ◌+ℤ◌, Some, None, Option, int_div, nat_lt, slice_index}
+use Rattle.std.specs.Prelude.{◌≡◌, ℕ, Bool, true, cond, ◌&&◌, ◌||◌, List, [], ◌∷◌, ℤ, pos, negsuc, ◌+ℤ◌, Some, None, Option, int_div, nat_lt, slice_index_or}
 use Rattle.std.specs.Option.{option_map}
 use Rattle.plans.specs.declared.param.Param.{Param}
 use Rattle.plans.specs.declared.rule.Rule.{Rule}
@@ -10,9 +10,13 @@ use Rattle.plans.specs.Words.{words, word_of, values_of}
 unfoldable pub quotient : ℤ → ℕ → ℤ
 quotient z d = int_div z (pos d)
 
--- the number that a rule starts from: the picked one of four values, or 0
+-- the number that a rule starts from: the picked one of the values, or 0
+abbrev pub picked : Option ℕ → List ℕ → ℕ
+picked None vs = 0
+picked (Some pick) vs = slice_index_or vs pick 0
+
 abbrev pub source : Rule → List ℕ → ℕ
-source r vs = cond (nat_lt r.pick 4) (slice_index vs r.pick) 0
+source r vs = picked r.pick vs
 
 -- what is divided
 abbrev pub sum : Rule → List ℕ → ℤ

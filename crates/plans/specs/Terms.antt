@@ -8,7 +8,8 @@ use Rattle.plans.specs.declared.ends.Side.{Side}
 use Rattle.plans.specs.declared.ends.Side.TheVariants.{Start, Finish}
 use Rattle.plans.specs.Words.{tuples, word_of}
 use Rattle.plans.specs.Targets.{quotient, sum}
-use Rattle.plans.specs.Ppo.{EventType, Structure, Valued, Valuation, Ppo, Restricted, Precedes}
+use Rattle.plans.specs.declared.ends.EventType.{EventType}
+use Rattle.plans.specs.Ppo.{Structure, Valued, Valuation, Ppo, Restricted, Precedes}
 use Rattle.plans.specs.Plan.{Plan}
 use Rattle.plans.specs.Orders.{Edge, turn, link, Has, leaves, enters, no_ends, order_of}
 use Rattle.plans.specs.Description.{Link, Description, task_at, written, Limits}
@@ -39,7 +40,7 @@ Ruled (r ∷ rs) v (w ∷ ws) = (quotient (sum r v) r.divisor ≡ pos w) × Rule
 -- a link: where that lies in the domains of the to task
 abbrev pub Targeted : Description → Link → List ℕ → List ℕ → Type 0
 Targeted d l v w =
-    Valued (domains_of (task_at d l.ends.from).params) v × Valued (domains_of (task_at d l.ends.to).params) w × Ruled l.rules v w
+    Valued (domains_of (task_at d l.ends.from.task).params) v × Valued (domains_of (task_at d l.ends.to.task).params) w × Ruled l.rules v w
 
 abbrev pub Yields : Description → Edge → List ℕ → List ℕ → Type 0
 Yields d (turn t s) v w = Turned (task_at d t).params s v w

@@ -1,33 +1,32 @@
 // Checks of a whole record.
-ghost use Rattle.std.specs.Prelude.{◌≡◌, ◌<◌, ◌≤◌, map, length, take, IfSome, is_ok, Ok, Decides};
-ghost use Rattle.plans.specs.Reads.{on_ok};
-ghost use Rattle.plans.specs.Layout.{task_of};
-ghost use Rattle.plans.specs.Record.{link_at, first_below, repeats, unordered, checked};
+ghost use Rattle.std.specs.Prelude.{◌≡◌, ◌<◌, map, length, IfSome, is_ok, Ok, Decides};
+ghost use Rattle.plans.specs.Row.{items};
+ghost use Rattle.plans.specs.Reads.{on_ok, Gives};
+ghost use Rattle.plans.specs.Record.{first_below, repeats, unordered, checked};
 ghost use Rattle.plans.specs.Repeat.{Repeat};
 ghost use Rattle.plans.specs.Laws.{LawsOfRecords};
 ghost use Rattle.plans.specs.Orders.{LawsOfPlans};
 ghost use Rattle.plans.specs.Terms.{RecordOf};
-ghost use Rattle.plans.specs.Decoded.{Gives, Joins, tasks_of, links_of, ends_of};
+ghost use Rattle.plans.specs.Decoded.{Finds, FindsLink, tasks_of, links_of, ends_of, shown};
 
 use crate::decode::read_record;
 use crate::ends::Ends;
 use crate::fault::{Fault, Kind};
-use crate::link::{Joined, Rules};
+use crate::link::Joined;
 use crate::record::Record;
 use crate::repeat::repeat;
+use crate::room::Row;
+use crate::shapes::{Link, Params};
 use crate::task::Task;
 use crate::tasks::Tasks;
 
 impl Tasks {
-    // A task by its number.
-    pub(crate) fn get(&self, task: usize) -> Task
-        requires { task < self.now.count }
-        ensures params { result.params ≡ (task_of (tasks_of self.now) task).each }
-        ensures used { result.used ≡ (task_of (tasks_of self.now) task).used }
+    // A task by its number, where there is one.
+    pub(crate) fn get(&self, task: usize) -> Option<Task>
+        ensures { Finds (tasks_of self.now) task result }
     {
-        let params = self.each[task].each;
-        let used = self.each[task].used;
-        Task { params, used }
+        let Params { each, .. } = *self.each.items().get(task)?;
+        Some(Task { params: each })
     }
 }
 
@@ -39,14 +38,14 @@ fn ends_repeat(ends: &[Ends]) -> Option<usize>
 }
 
 impl Record {
-    // The ends of the links.
-    fn ends(&self) -> [Ends; 64]
-        ensures value { take self.now.link_count result ≡ map ends_of (links_of self.now) }
-        ensures full { length result ≡ 64 }
+    // The ends of the links, copied since the search for a repeat is lent a slice and libraries have no heap.
+    fn ends(&self) -> Row<Ends, 64>
+        ensures { items result ≡ map ends_of (links_of self.now) }
     {
-        let mut ends = [self.links[0].ends; 64];
-        for i in 0..self.link_count {
-            ends[i] = self.links[i].ends;
+        let mut ends = Row::new(Ends::NONE);
+        for link in self.links.items() {
+            // there is room, since a record has no more links
+            let _ = ends.push(link.ends);
         }
         ends
     }
@@ -54,32 +53,34 @@ impl Record {
     // The first link with the ends of an earlier one.
     fn repeated(&self) -> Option<usize>
         ensures value { result ≡ first_below (repeats (links_of self.now)) (length (links_of self.now)) }
-        ensures within { IfSome result (λ j. j < self.now.link_count) }
+        ensures within { IfSome result (λ j. j < length (links_of self.now)) }
     {
         let ends = self.ends();
-        ends_repeat(&ends[..self.link_count])
+        ends_repeat(ends.items())
     }
 
-    // A link with its two tasks.
-    pub(crate) fn joined(&self, link: usize) -> Joined
-        requires { link < self.now.link_count }
-        ensures { Joins (tasks_of self.now.tasks) (link_at (links_of self.now) link) result }
+    // A link by its number, with its two tasks, where there is one.
+    pub(crate) fn joined(&self, link: usize) -> Option<Joined>
+        ensures { FindsLink (tasks_of self.now.tasks) (links_of self.now) link result }
     {
-        let ends = self.links[link].ends;
-        let each = self.links[link].rules;
-        let from = self.tasks.get(ends.from);
-        let to = self.tasks.get(ends.to);
-        let rules = Rules { each };
-        Joined { from, to, rules }
+        let Link { ends, rules, .. } = *self.links.items().get(link)?;
+        let from = self.tasks.get(ends.from.task)?;
+        let to = self.tasks.get(ends.to.task)?;
+        Some(Joined {
+            from,
+            to,
+            each: rules,
+        })
     }
 
     // The first link whose targets are out of order.
     fn unordered(&self) -> Option<usize>
         ensures value { result ≡ first_below (unordered (tasks_of self.now.tasks) (links_of self.now)) (length (links_of self.now)) }
-        ensures within { IfSome result (λ j. j < self.now.link_count) }
+        ensures within { IfSome result (λ j. j < length (links_of self.now)) }
     {
-        for j in 0..self.link_count {
-            if !self.joined(j).in_order() {
+        // by number, since a link is found with its two tasks by its number
+        for j in 0..self.links.items().len() {
+            if !self.joined(j)?.in_order() {
                 return Some(j);
             }
         }
@@ -89,14 +90,14 @@ impl Record {
 
 // The parts of a record, or its first fault.
 pub(crate) fn decode(bytes: &[u8]) -> Result<Record, Fault>
-    ensures { Gives (checked bytes.now) result }
+    ensures { Gives shown (checked bytes.now) result }
 {
     let record = read_record(bytes)?;
     if let Some(link) = record.repeated() {
-        return Err(Kind::Repeated.at(record.links[link].begins));
+        return Err(Kind::Repeated.at(record.links.items()[link].begins));
     }
     if let Some(link) = record.unordered() {
-        return Err(Kind::Order.at(record.links[link].begins));
+        return Err(Kind::Order.at(record.links.items()[link].begins));
     }
     Ok(record)
 }

@@ -1,24 +1,21 @@
 // Reads a whole record.
-ghost use Rattle.std.specs.Prelude.{◌≡◌, ◌≤◌, length, IfOk};
-ghost use Rattle.plans.specs.Reads.{Reads};
-ghost use Rattle.plans.specs.Layout.{counts, fields};
-ghost use Rattle.plans.specs.Decoded.{ReadsBody, Gives};
+ghost use Rattle.std.specs.Prelude.{◌≤◌, IfOk};
+ghost use Rattle.plans.specs.Reads.{Gives, Reads, ReadsAs};
+ghost use Rattle.plans.specs.Layout.{counts, body, fields};
+ghost use Rattle.plans.specs.Decoded.{shown};
 
-use crate::ends::{Ends, Side};
 use crate::fault::{Fault, Kind};
 use crate::links::read_tasks;
 use crate::parts::read_padding;
-use crate::read::{Part, read_first};
+use crate::read::read_row;
 use crate::record::Record;
-use crate::rule::Rule;
 use crate::shapes::{Counts, Link, Name};
 use bits::Reader;
 
 // The form, and how many tasks and links there are.
 fn read_counts(reader: &mut Reader) -> Result<Counts, Fault>
-    ensures value { Reads (counts reader.old.bytes.now) reader.old.at result reader.new.at }
+    ensures value { Reads counts reader.old result reader.new }
     ensures bound { IfOk result (λ n. (n.tasks ≤ 32) × (n.links ≤ 64)) }
-    ensures bytes { reader.new.bytes.now ≡ reader.old.bytes.now }
 {
     let at = reader.place();
     if reader.read(4)? != 1 {
@@ -43,41 +40,22 @@ fn read_counts(reader: &mut Reader) -> Result<Counts, Fault>
 // The tasks, the links and the names.
 fn read_body(reader: &mut Reader, counts: Counts) -> Result<Record, Fault>
     requires { (counts.tasks ≤ 32) × (counts.links ≤ 64) }
-    ensures value { ReadsBody counts reader.old.bytes.now reader.old.at result reader.new.at }
-    ensures bytes { reader.new.bytes.now ≡ reader.old.bytes.now }
+    ensures { ReadsAs shown (λ bs. body bs counts) reader.old result reader.new }
 {
     let tasks = read_tasks(reader, counts.tasks)?;
-    let ends = Ends {
-        from: 0,
-        from_side: Side::Start,
-        to: 0,
-        to_side: Side::Start,
-    };
-    let rule = Rule {
-        pick: 4,
-        add: 0,
-        divisor: 1,
-    };
-    let mut links = [Link {
-        ends,
-        rules: [rule; 4],
-        begins: 0,
-    }; 64];
-    read_first(reader, &tasks, counts.links, &mut links)?;
+    let links = read_row(reader, &tasks, counts.links, Link::NONE)?;
     read_padding(reader)?;
-    let mut names = [Name { at: 0, length: 0 }; 32];
-    read_first(reader, &(), counts.tasks, &mut names)?;
+    let names = read_row(reader, &(), counts.tasks, Name::NONE)?;
     Ok(Record {
         tasks,
         links,
-        link_count: counts.links,
         names,
     })
 }
 
 // The parts of a record, or the first field that is at fault.
 pub(crate) fn read_record(bytes: &[u8]) -> Result<Record, Fault>
-    ensures { Gives (fields bytes.now) result }
+    ensures { Gives shown (fields bytes.now) result }
 {
     let mut reader = Reader::new(bytes);
     let counts = read_counts(&mut reader)?;

@@ -1,29 +1,24 @@
 // A link's target at a word.
 ghost use Rattle.std.specs.Prelude.{◌≡◌, ◌<◌, ◌≤◌, length};
-ghost use Rattle.plans.specs.Targets.{quotient, in_range, sum, value_for, target_at, Divide};
+ghost use Rattle.plans.specs.Targets.{quotient, sum, value_for, target_at, Divide};
 
 use crate::param::Param;
 use crate::rule::Rule;
 use crate::task::Task;
-use crate::word::{Value, Word, values_of, word_of};
+use crate::word::{Value, Word, push, values_of};
 
-// The rules for the four parameters of a link's target.
+// The two tasks that a link joins, and its rules for the four parameters of a target.
 #[derive(Clone, Copy)]
-pub struct Rules {
+pub struct Joined {
+    pub(crate) from: Task,
+    pub(crate) to: Task,
     pub(crate) each: [Rule; 4],
     ghost four: { length each ≡ 4 },
     ghost divide: { Divide each },
 }
 
-// The rules of a link, with the two tasks that it joins.
-#[derive(Clone, Copy)]
-pub struct Joined {
-    pub(crate) from: Task,
-    pub(crate) to: Task,
-    pub(crate) rules: Rules,
-}
-
-// The quotient of a sum and a divisor, which is 1 in most links.
+// The quotient of a sum and a divisor, which is 1 in most links. That a rule divides is a fact of the links of a record
+// and not of the rule, so that descriptions and the reader make a rule of plain numbers.
 fn quotient_of(sum: i32, divisor: u8) -> i32
     requires { 0 < divisor }
     ensures { result ≡ quotient sum divisor }
@@ -35,25 +30,14 @@ fn quotient_of(sum: i32, divisor: u8) -> i32
     }
 }
 
-// A number as a value of a parameter, where it lies in the range.
-fn in_range(param: &Param, n: i32) -> Option<Value>
-    ensures { result ≡ in_range param.now n }
-{
-    if n < i32::from(param.low) || n > i32::from(param.high) {
-        return None;
-    }
-    Some(n as Value)
-}
-
 impl Rule {
     // What the divisor divides, from the four values of the word that the link goes from.
     fn sum(&self, values: [Value; 4]) -> i32
         ensures { result ≡ sum self.now values }
     {
-        let source = if self.pick < 4 {
-            values[self.pick as usize]
-        } else {
-            0
+        let source = match self.pick {
+            Some(pick) => values.get(usize::from(pick)).copied().unwrap_or(0),
+            None => 0,
         };
         i32::from(source) + i32::from(self.add)
     }
@@ -63,30 +47,21 @@ impl Rule {
         requires { 0 < self.now.divisor }
         ensures { result ≡ value_for self.now param.now values }
     {
-        in_range(param, quotient_of(self.sum(values), self.divisor))
-    }
-}
-
-impl Rules {
-    // The target at a word.
-    pub(crate) fn target_at(&self, from: &Task, to: &Task, word: Word) -> Option<Word>
-        ensures { result ≡ target_at from.now.params to.now.params self.now.each word }
-    {
-        from.place_of(word)?;
-        let values = values_of(word);
-        let mut target = [0; 4];
-        for i in 0..4 {
-            target[i] = self.each[i].value_for(&to.params[i], values)?;
-        }
-        Some(word_of(target))
+        param.in_range(quotient_of(self.sum(values), self.divisor))
     }
 }
 
 impl Joined {
     // The target at a word.
     pub(crate) fn target_at(&self, word: Word) -> Option<Word>
-        ensures { result ≡ target_at self.now.from.params self.now.to.params self.now.rules.each word }
+        ensures { result ≡ target_at self.now.from.params self.now.to.params self.now.each word }
     {
-        self.rules.target_at(&self.from, &self.to, word)
+        self.from.place_of(word)?;
+        let values = values_of(word);
+        let mut target = 0;
+        for (rule, param) in self.each.iter().zip(&self.to.params) {
+            target = push(target, rule.value_for(param, values)?);
+        }
+        Some(target)
     }
 }

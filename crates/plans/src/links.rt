@@ -1,12 +1,13 @@
 // Reads the tasks and the links of a record.
 ghost use Rattle.std.specs.Prelude.{◌≡◌, ◌<◌, ◌≤◌, length};
-ghost use Rattle.plans.specs.Layout.{link, task_of};
-ghost use Rattle.plans.specs.Decoded.{ReadsTasks, tasks_of};
+ghost use Rattle.plans.specs.Reads.{ReadsAs, times};
+ghost use Rattle.plans.specs.Layout.{task, link, task_of};
+ghost use Rattle.plans.specs.Decoded.{tasks_of};
 
 use crate::ends::Ends;
 use crate::fault::{Fault, Kind};
-use crate::param::Param;
-use crate::read::{Part, read_first};
+use crate::read::{Part, read_row};
+use crate::room::Row;
 use crate::rule::Rule;
 use crate::shapes::{Link, Params};
 use crate::tasks::Tasks;
@@ -15,30 +16,20 @@ use bits::Reader;
 // So many tasks.
 pub(crate) fn read_tasks(reader: &mut Reader, count: usize) -> Result<Tasks, Fault>
     requires { count ≤ 32 }
-    ensures value { ReadsTasks count reader.old.bytes.now reader.old.at result reader.new.at }
-    ensures bytes { reader.new.bytes.now ≡ reader.old.bytes.now }
+    ensures { ReadsAs tasks_of (λ bs. times count (task bs)) reader.old result reader.new }
 {
-    let none = Param {
-        low: 0,
-        high: 0,
-        down: false,
-    };
-    let mut each = [Params {
-        each: [none; 4],
-        used: 0,
-    }; 32];
-    read_first(reader, &(), count, &mut each)?;
-    Ok(Tasks { each, count })
+    let each = read_row(reader, &(), count, Params::NONE)?;
+    Ok(Tasks { each })
 }
 
 impl Tasks {
     // How many parameters a task uses.
     fn used_by(&self, task: usize) -> usize
-        requires { task < self.now.count }
+        requires { task < length (tasks_of self.now) }
         ensures value { result ≡ (task_of (tasks_of self.now) task).used }
         ensures bound { result ≤ 4 }
     {
-        self.each[task].used
+        self.each.items()[task].used
     }
 }
 
@@ -48,17 +39,16 @@ impl Part<Tasks> for Link {
     fn read(reader: &mut Reader, tasks: &Tasks) -> Result<Link, Fault> {
         let begins = reader.place();
         let ends = Ends::read(reader, &())?;
-        let from = ends.from;
-        let to = ends.to;
-        if from >= tasks.count || to >= tasks.count || from == to {
+        let from = ends.from.task;
+        let to = ends.to.task;
+        let count = tasks.each.items().len();
+        if from >= count || to >= count || from == to {
             return Err(Kind::Ends.at(begins));
         }
-        let mut rules = [Rule {
-            pick: 4,
-            add: 0,
-            divisor: 1,
-        }; 4];
-        read_first(reader, &tasks.used_by(from), tasks.used_by(to), &mut rules)?;
+        let sources = tasks.used_by(from);
+        let targets = tasks.used_by(to);
+        let row: Row<Rule, 4> = read_row(reader, &sources, targets, Rule::NONE)?;
+        let rules = row.room;
         Ok(Link {
             ends,
             rules,

@@ -3,46 +3,43 @@ ghost use Rattle.std.specs.Prelude.{◌≡◌};
 ghost use Rattle.std.specs.List.{slice_get};
 ghost use Rattle.plans.specs.Lists.{and_then};
 ghost use Rattle.plans.specs.Words.{words};
-ghost use Rattle.plans.specs.Order.{place_of_target, target_places, rising};
+ghost use Rattle.plans.specs.Order.{place_of_target, target_places, follows, rising};
 
-use crate::link::{Joined, Rules};
-use crate::task::Task;
+use crate::link::Joined;
 
-impl Rules {
+// Whether a place may come after another: no target goes back, and none comes after a word without one.
+fn follows(least: Option<u32>, place: Option<u32>) -> bool
+    ensures { result ≡ follows least place }
+{
+    match (least, place) {
+        (_, None) => true,
+        (None, Some(_)) => false,
+        (Some(least), Some(place)) => least <= place,
+    }
+}
+
+impl Joined {
     // The place of the target at a place of the from task.
-    fn place_at(&self, from: &Task, to: &Task, place: u32) -> Option<u32>
-        ensures { result ≡ and_then (slice_get (words from.now.params) place) (place_of_target from.now.params to.now.params self.now.each) }
+    fn place_at(&self, place: u32) -> Option<u32>
+        ensures { result ≡ and_then (slice_get (words self.now.from.params) place) (place_of_target self.now.from.params self.now.to.params self.now.each) }
     {
-        let word = from.word_at(place)?;
-        let target = self.target_at(from, to, word)?;
-        to.place_of(target)
+        let word = self.from.word_at(place)?;
+        let target = self.target_at(word)?;
+        self.to.place_of(target)
     }
 
     // Whether the targets stand on the first words and on none after, and never go back.
-    fn in_order(&self, from: &Task, to: &Task) -> bool
-        ensures { result ≡ rising 0 (target_places from.now.params to.now.params self.now.each) }
+    pub(crate) fn in_order(&self) -> bool
+        ensures { result ≡ rising 0 (target_places self.now.from.params self.now.to.params self.now.each) }
     {
-        let mut least = 0;
-        let mut ended = false;
-        for i in 0..from.word_count() {
-            let Some(place) = self.place_at(from, to, i) else {
-                ended = true;
-                continue;
-            };
-            if ended || place < least {
+        let mut least = Some(0);
+        for i in 0..self.from.word_count() {
+            let place = self.place_at(i);
+            if !follows(least, place) {
                 return false;
             }
             least = place;
         }
         true
-    }
-}
-
-impl Joined {
-    // Whether the targets keep their order.
-    pub(crate) fn in_order(&self) -> bool
-        ensures { result ≡ rising 0 (target_places self.now.from.params self.now.to.params self.now.rules.each) }
-    {
-        self.rules.in_order(&self.from, &self.to)
     }
 }

@@ -1,12 +1,12 @@
 // Reads the parts of a packed record.
-ghost use Rattle.std.specs.Prelude.{◌≡◌};
 ghost use Rattle.plans.specs.Reads.{Reads};
-ghost use Rattle.plans.specs.Layout.{param, task, rule, side_of, ends, padding, letter, name};
+ghost use Rattle.plans.specs.Layout.{param, task, rule, event_type, ends, padding, letter, name};
 
-use crate::ends::{Ends, Side};
+use crate::ends::{Ends, EventType, Side};
 use crate::fault::{Fault, Kind};
 use crate::param::Param;
-use crate::read::{Part, read_first};
+use crate::read::{Part, read_row};
+use crate::room::Row;
 use crate::rule::Rule;
 use crate::shapes::{Letter, Name, Params};
 use crate::task::product;
@@ -40,19 +40,13 @@ impl Part<()> for Params {
         if used > 4 {
             return Err(Kind::Params.at(at));
         }
-        let mut each = [Param {
-            low: 0,
-            high: 0,
-            down: false,
-        }; 4];
-        read_first(reader, known, used as usize, &mut each)?;
+        let used = used as usize;
+        let row: Row<Param, 4> = read_row(reader, known, used, Param::NONE)?;
+        let each = row.room;
         if product(&each) > 65536 {
             return Err(Kind::Words.at(at));
         }
-        Ok(Params {
-            each,
-            used: used as usize,
-        })
+        Ok(Params { each, used })
     }
 }
 
@@ -73,41 +67,36 @@ impl Part<usize> for Rule {
             return Err(Kind::Rule.at(at));
         }
         Ok(Rule {
-            pick: pick as u8,
+            pick: (pick != 4).then_some(pick as u8),
             add: if add < 256 { add } else { add - 512 },
             divisor: divisor as u8,
         })
     }
 }
 
-// The side that a bit stands for.
-fn side_of(bit: u32) -> Side
-    ensures { result ≡ side_of bit }
-{
-    if bit == 1 { Side::Finish } else { Side::Start }
+impl Part<()> for EventType {
+    ghost reads = { λ _ bs. event_type bs };
+
+    fn read(reader: &mut Reader, known: &()) -> Result<EventType, Fault> {
+        let task = reader.read(5)? as usize;
+        let side = Side::from(reader.read(1)? == 1);
+        Ok(EventType { task, side })
+    }
 }
 
 impl Part<()> for Ends {
     ghost reads = { λ _ bs. ends bs };
 
     fn read(reader: &mut Reader, known: &()) -> Result<Ends, Fault> {
-        let from = reader.read(5)? as usize;
-        let from_side = side_of(reader.read(1)?);
-        let to = reader.read(5)? as usize;
-        let to_side = side_of(reader.read(1)?);
-        Ok(Ends {
-            from,
-            from_side,
-            to,
-            to_side,
-        })
+        let from = EventType::read(reader, known)?;
+        let to = EventType::read(reader, known)?;
+        Ok(Ends { from, to })
     }
 }
 
 // The zero bits up to the end of a byte.
 pub(crate) fn read_padding(reader: &mut Reader) -> Result<(), Fault>
-    ensures value { Reads (padding reader.old.bytes.now) reader.old.at result reader.new.at }
-    ensures bytes { reader.new.bytes.now ≡ reader.old.bytes.now }
+    ensures { Reads padding reader.old result reader.new }
 {
     let at = reader.place();
     let width = (8 - at % 8) % 8;
@@ -140,11 +129,12 @@ impl Part<()> for Name {
             return Err(Kind::Text.at(at));
         }
         let begins = reader.place();
-        let mut letters = [Letter { code: 0 }; 15];
-        read_first(reader, known, length as usize, &mut letters)?;
+        let length = length as usize;
+        // the letters are read to be checked: what tells a name is its place
+        read_row::<(), Letter, 15>(reader, known, length, Letter::NONE)?;
         Ok(Name {
             at: (begins / 8) as usize,
-            length: length as usize,
+            length,
         })
     }
 }

@@ -1,7 +1,9 @@
 // The parts of a whole record.
-ghost use Rattle.std.specs.Prelude.{◌≡◌, ◌≤◌, true, length, take};
+ghost use Rattle.std.specs.Prelude.{◌≡◌, true, length};
+ghost use Rattle.plans.specs.Row.{items};
 ghost use Rattle.plans.specs.Accepted.{good_links};
 
+use crate::room::Row;
 use crate::shapes::{Link, Name};
 use crate::tasks::Tasks;
 
@@ -9,11 +11,7 @@ use crate::tasks::Tasks;
 #[derive(Clone, Copy)]
 pub struct Record {
     pub(crate) tasks: Tasks,
-    pub(crate) links: [Link; 64],
-    pub(crate) link_count: usize,
-    pub(crate) names: [Name; 32],
-    ghost full: { length links ≡ 64 },
-    ghost few: { link_count ≤ 64 },
-    ghost good: { good_links tasks.count (take link_count links) ≡ true },
-    ghost named: { length names ≡ 32 },
+    pub(crate) links: Row<Link, 64>,
+    pub(crate) names: Row<Name, 32>,
+    ghost good: { good_links (length (items tasks.each)) (items links) ≡ true },
 }

@@ -6,8 +6,8 @@ ghost use Rattle.plans.specs.Repeat.{Repeat};
 pub(crate) fn repeat<T: PartialEq>(items: &[T]) -> Option<usize>
     ensures { ((a b : T) (t : Bool) → (t ≡ T.PartialEq.eq a b) → Decides t (a ≡ b)) → Repeat (λ a b. a ≡ b) items.now result }
 {
-    for j in 0..items.len() {
-        if items[0..j].contains(&items[j]) {
+    for (j, item) in items.iter().enumerate() {
+        if items[..j].contains(item) {
             return Some(j);
         }
     }

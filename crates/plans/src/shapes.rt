@@ -3,7 +3,8 @@ use crate::ends::Ends;
 use crate::param::Param;
 use crate::rule::Rule;
 
-// A task's parameters: four, of which it uses the first ones. One that it does not use runs from 0 to 0.
+// Four parameters: those of a task, of which there are `used`, and behind them ones that run from 0 to 0. All four are
+// counted and walked.
 #[derive(Clone, Copy)]
 pub struct Params {
     pub each: [Param; 4],
@@ -36,4 +37,44 @@ pub struct Name {
 pub struct Counts {
     pub tasks: usize,
     pub links: usize,
+}
+
+// What fills the room behind the parts that a record has.
+impl Param {
+    pub(crate) const NONE: Param = Param {
+        low: 0,
+        high: 0,
+        down: false,
+    };
+}
+
+impl Params {
+    pub(crate) const NONE: Params = Params {
+        each: [Param::NONE; 4],
+        used: 0,
+    };
+}
+
+impl Rule {
+    pub(crate) const NONE: Rule = Rule {
+        pick: None,
+        add: 0,
+        divisor: 1,
+    };
+}
+
+impl Link {
+    pub(crate) const NONE: Link = Link {
+        ends: Ends::NONE,
+        rules: [Rule::NONE; 4],
+        begins: 0,
+    };
+}
+
+impl Letter {
+    pub(crate) const NONE: Letter = Letter { code: 0 };
+}
+
+impl Name {
+    pub(crate) const NONE: Name = Name { at: 0, length: 0 };
 }

@@ -1,41 +1,44 @@
 // A plan, told through questions.
 ghost use Rattle.std.specs.Prelude.{◌≡◌};
-ghost use Rattle.plans.specs.Plan.{Lawful, task_count, word_count, word_at, place_of, next_word, link_count, link_ends, target};
+ghost use Rattle.plans.specs.Plan.{Plan, Keeps, task_count, word_count, word_at, place_of, next_word, link_count, link_ends, target};
 
 use crate::ends::Ends;
 use crate::word::Word;
 
 // A question changes nothing. What is unknown is answered with nothing.
 pub trait Source {
-    // the plan that the source means, with the proof that it keeps the rules of plans
-    ghost means: { Self → Lawful };
+    // the plan that the source means
+    ghost plan: { Self → Plan };
 
     fn task_count(&self) -> usize
-        ensures { result ≡ task_count (means self.now).plan };
+        ensures { result ≡ task_count (plan self.now) };
 
     // How many words a task has.
     fn word_count(&self, task: usize) -> Option<u32>
-        ensures { result ≡ word_count (means self.now).plan task };
+        ensures { result ≡ word_count (plan self.now) task };
 
     // The word at a place.
     fn word_at(&self, task: usize, place: u32) -> Option<Word>
-        ensures { result ≡ word_at (means self.now).plan task place };
+        ensures { result ≡ word_at (plan self.now) task place };
 
     // The place of a word.
     fn place_of(&self, task: usize, word: Word) -> Option<u32>
-        ensures { result ≡ place_of (means self.now).plan task word };
+        ensures { result ≡ place_of (plan self.now) task word };
 
     // The word one place after a word.
     fn next_word(&self, task: usize, word: Word) -> Option<Word>
-        ensures { result ≡ next_word (means self.now).plan task word };
+        ensures { result ≡ next_word (plan self.now) task word };
 
     fn link_count(&self) -> usize
-        ensures { result ≡ link_count (means self.now).plan };
+        ensures { result ≡ link_count (plan self.now) };
 
     fn ends(&self, link: usize) -> Option<Ends>
-        ensures { result ≡ link_ends (means self.now).plan link };
+        ensures { result ≡ link_ends (plan self.now) link };
 
     // What a link gives at a word of the task that it goes from.
     fn target(&self, link: usize, word: Word) -> Option<Word>
-        ensures { result ≡ target (means self.now).plan link word };
+        ensures { result ≡ target (plan self.now) link word };
+
+    // it keeps the rules of plans
+    ghost keeps: { (x : Self) → Keeps (plan x) };
 }

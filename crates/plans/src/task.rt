@@ -1,24 +1,24 @@
 // A task's value words.
 ghost use Rattle.std.specs.Prelude.{◌≡◌, ◌/◌, ◌%◌, ◌<◌, ◌≤◌, length, IfSome};
-ghost use Rattle.plans.specs.Words.{size, value_at, turn_of, count, most_words, Bytes, words};
+ghost use Rattle.plans.specs.Words.{count, most_words, Bytes, words};
 ghost use Rattle.plans.specs.Lists.{place_in, after};
 ghost use Rattle.std.specs.List.{slice_get};
 
 use crate::param::Param;
-use crate::word::{Value, Word, values_of, word_of};
+use crate::word::{Word, values_of, word_of};
 
 // The product of four parameters' sizes.
 pub(crate) fn product(params: &[Param; 4]) -> u64
     ensures { result ≡ count params.now }
 {
     let mut total = 1;
-    for i in 0..4 {
-        total *= u64::from(params[i].size());
+    for p in params {
+        total *= u64::from(p.size());
     }
     total
 }
 
-// The quotient and the remainder of a number by the size of a parameter; most need no division.
+// The quotient and the remainder of a number by the size of a parameter. The two cases by hand need no division.
 fn split(rest: u32, turns: u32) -> (u32, u32)
     requires { 0 < turns }
     ensures quotient { result.0 ≡ rest / turns }
@@ -37,52 +37,14 @@ fn split(rest: u32, turns: u32) -> (u32, u32)
 #[derive(Clone, Copy)]
 pub struct Task {
     pub(crate) params: [Param; 4],
-    pub(crate) used: usize,
     ghost four: { length params ≡ 4 },
-    ghost few: { used ≤ 4 },
     ghost some: { 0 < count params },
     ghost limit: { count params ≤ most_words },
     ghost bytes: { Bytes params },
 }
 
-impl Param {
-    // How many values the parameter runs through.
-    pub(crate) fn size(&self) -> u32
-        ensures value { result ≡ size self.now }
-        ensures bound { result ≤ 256 }
-    {
-        (u32::from(self.high) + 1).saturating_sub(u32::from(self.low))
-    }
-
-    // The value at a turn.
-    pub(crate) fn value_at(&self, turn: u32) -> Value
-        requires { turn < size self.now }
-        ensures { result ≡ value_at self.now turn }
-    {
-        if self.down {
-            self.high - turn as Value
-        } else {
-            self.low + turn as Value
-        }
-    }
-
-    // The turn at which the parameter has a value.
-    pub(crate) fn turn_of(&self, value: Value) -> Option<u32>
-        ensures { result ≡ turn_of self.now value }
-    {
-        if value < self.low || value > self.high {
-            return None;
-        }
-        Some(u32::from(if self.down {
-            self.high - value
-        } else {
-            value - self.low
-        }))
-    }
-}
-
 impl Task {
-    // How many value words the task has.
+    // How many value words the task has: at most 65,536, so that `as` keeps the number.
     pub(crate) fn word_count(&self) -> u32
         ensures { result ≡ length (words self.now.params) }
     {
@@ -95,8 +57,7 @@ impl Task {
     {
         let mut values = [0; 4];
         let mut rest = place;
-        for i in (0..4).rev() {
-            let p = self.params[i];
+        for (i, p) in self.params.iter().enumerate().rev() {
             let (more, turn) = split(rest, p.size());
             values[i] = p.value_at(turn);
             rest = more;
@@ -115,9 +76,8 @@ impl Task {
     {
         let values = values_of(word);
         let mut place = 0;
-        for i in 0..4 {
-            let p = self.params[i];
-            place = place * p.size() + p.turn_of(values[i])?;
+        for (p, v) in self.params.iter().zip(&values) {
+            place = place * p.size() + p.turn_of(*v)?;
         }
         Some(place)
     }

@@ -1,35 +1,42 @@
 // Checks each record of a table: a line of the input is a name, a space and the record's bytes in hexadecimal.
 #![tactic(auto)]
 
-ghost use Rattle.std.specs.Prelude.{◌<◌};
+ghost use Rattle.std.specs.Prelude.{◌<◌, IfSome};
 
 use plans::{Packed, Source, check};
 use std::alloc::{AllocError, Global};
 use std::io;
 use std::io::{BufRead, BufReader};
 
-// The value of a hexadecimal digit; 0 for another byte.
-fn digit(c: u8) -> u8
-    ensures { result < 16 }
+// The value of a hexadecimal digit.
+fn digit(c: u8) -> Option<u8>
+    ensures { IfSome result (λ n. n < 16) }
 {
     match c {
-        b'0'..=b'9' => c - b'0',
-        b'a'..=b'f' => c - b'a' + 10,
-        _ => 0,
+        b'0'..=b'9' => Some(c - b'0'),
+        b'a'..=b'f' => Some(c - b'a' + 10),
+        _ => None,
     }
+}
+
+// The byte that two digits spell; what is no digit counts as 0.
+fn byte(high: u8, low: u8) -> u8 {
+    digit(high).unwrap_or(0) * 16 + digit(low).unwrap_or(0)
 }
 
 // The bytes that hexadecimal digits spell.
 fn bytes_of(heap: Global, digits: &[u8]) -> Result<Vec<u8>, AllocError> {
     let mut bytes = Vec::new(heap);
-    for i in 0..digits.len() / 2 {
-        bytes.push(digit(digits[2 * i]) * 16 + digit(digits[2 * i + 1]))?;
+    for pair in digits.chunks_exact(2) {
+        if let [high, low] = pair {
+            bytes.push(byte(*high, *low))?;
+        }
     }
     Ok(bytes)
 }
 
 // The row for one record.
-fn tell(rt: &HostRuntime, name: &str, bytes: &[u8]) -> io::Result<()> {
+fn tell(rt: &impl Print, name: &str, bytes: &[u8]) -> io::Result<()> {
     match check(bytes) {
         Ok(()) => {
             let plan = Packed::new(bytes);
@@ -37,11 +44,7 @@ fn tell(rt: &HostRuntime, name: &str, bytes: &[u8]) -> io::Result<()> {
             let words = plan.word_count(0).unwrap_or(0);
             println!(rt; "{name}: ok, {tasks} tasks, {words} words in the first")
         }
-        Err(fault) => {
-            let number = fault.number();
-            let place = fault.place();
-            println!(rt; "{name}: plan {number} at {place}")
-        }
+        Err(fault) => println!(rt; "{name}: {fault}"),
     }
 }
 

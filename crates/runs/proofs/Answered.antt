@@ -1,5 +1,6 @@
 -- Each call over the slots is the defined reply to it, and its slots show what then stands.
-use Rattle.std.proofs.Common.{◌≡◌, ℕ, suc, ◌+◌, ◌*◌, ◌<◌, Bool, true, false, cond, not, ◌&&◌, eqb, ltb, List, length, set, is_ok, Some, None, Ok, Err, Option, Result, sym, refl, ap, ◌∙◌, subst, arith, get_or-set_other}
+use Rattle.std.proofs.Common.{◌≡◌, ℕ, suc, ◌+◌, ◌*◌, ◌<◌, Bool, true, false, cond, not, ◌&&◌, eqb, ltb, List, length, set, is_ok, Some, None, Ok, Err, Option, Result, sym, refl, ap, ◌∙◌, subst, arith, add-one}
+use Rattle.std.proofs.lemmas.Option.{slice_get_within, gets}
 use Rattle.std.proofs.lemmas.Bool.{eqb-true}
 use Rattle.plans.specs.declared.event.Event.{Event}
 use Rattle.plans.specs.declared.ends.Side.{Side}
@@ -12,18 +13,20 @@ use Rattle.runs.specs.declared.calls.Call.TheVariants.{Post, TakeBack}
 use Rattle.runs.specs.declared.refusal.Refusal.{Refusal}
 use Rattle.runs.specs.declared.refusal.Refusal.TheVariants.{NoTask, NoWord, Stands, Waits, Absent, RestedOn}
 use Rattle.runs.specs.declared.table.Slot.{Slot}
-use Rattle.runs.specs.Calls.{accepted, with, without, post_check, take_back_check, unless, after, standing, refused_or, reply}
-use Rattle.runs.specs.Slots.{bit, rank, maybe, held, blank, slot_of, progress, SlotFits, TableFits, counts, started, finished, stepped, undone, links_met_by, links_free_by, post_own, post_by, entered, posted_by, take_back_own, take_back_by, taken_back_by}
+use Rattle.runs.specs.Calls.{accepted, refused, with, without, post_check, take_back_check, unless, after, standing, refused_or, reply}
+use Rattle.runs.specs.Slots.{bit, rank, maybe, held, slot_of, progress, SlotFits, TableFits, counts, started, finished, stepped, undone, links_met_by, links_free_by, post_own, post_by, entered, posted_by, take_back_own, take_back_by, taken_back_by}
 use Rattle.runs.proofs.Counting.{one_more, links_met, links_free, post_check_by, take_back_check_by, JudgedByCounts}
 use Rattle.runs.specs.Laws.{Ready}
-use Rattle.runs.specs.Shows.{Shows, Answers, told}
-use Rattle.plans.proofs.Places.{nth_within}
+use Rattle.runs.specs.declared.run.Run.{Run}
+use Rattle.runs.specs.Shows.{Shows, Answers, Performs, told}
 use Rattle.plans.proofs.Walking.{word_known}
-use Rattle.runs.proofs.Places.{none_some, place_word}
+use Rattle.runs.proofs.Places.{place_word}
 use Rattle.runs.proofs.Stands.{post_clear, take_back_known, always_a_configuration, standing_more}
 use Rattle.runs.proofs.Counts.{next_one, held_told}
 use Rattle.runs.proofs.ByCounts.{checks_by_counts}
 use Rattle.runs.proofs.Slots.{Flags, flags, now_done, now_running, now_waiting, few, all_met, all_free, fits_set, is_at, by_start, by_finish, by_undone}
+use Rattle.std.proofs.lemmas.Bool.Decides.{nat_tests}
+use Rattle.std.proofs.lemmas.Grind.{common_steps}
 
 -- the result of a check
 abbrev pub checked : Option Refusal → Result (Unit {0}) Refusal
@@ -31,27 +34,17 @@ checked None = Ok tt
 checked (Some x) = Err x
 
 told_checked : (o : Option Refusal) → told (checked o) ≡ refused_or o accepted
-told_checked None = refl
-told_checked (Some x) = refl
+told_checked o = grind (arith, nat_tests)
 
 -- The checks of a post, one test after another.
 post_tests : (x y z : Bool) → ◌≡◌ {A = Result (Unit {0}) Refusal} (cond x (Err Stands) (cond y (cond z (Ok tt) (Err Waits)) (Err Waits))) (checked (cond x (Some Stands) (cond (not (y && z)) (Some Waits) None)))
-post_tests true y z = refl
-post_tests false true true = refl
-post_tests false true false = refl
-post_tests false false z = refl
+post_tests x y z = grind (arith, nat_tests)
 
 take_back_tests : (x y z : Bool) → ◌≡◌ {A = Result (Unit {0}) Refusal} (cond x (cond y (cond z (Ok tt) (Err RestedOn)) (Err RestedOn)) (Err Absent)) (checked (cond (not x) (Some Absent) (cond (not (y && z)) (Some RestedOn) None)))
-take_back_tests false y z = refl
-take_back_tests true true true = refl
-take_back_tests true true false = refl
-take_back_tests true false z = refl
+take_back_tests x y z = grind (arith, nat_tests)
 
 next_taken : (a b y z : Bool) → ◌≡◌ {A = Option Refusal} (cond (not a) (Some NoTask) (cond (not b) (Some Absent) (cond (not (y && z)) (Some RestedOn) None))) None → y ≡ true
-next_taken false b y z h = none_some NoTask (sym h)
-next_taken true false y z h = none_some Absent (sym h)
-next_taken true true true z h = refl
-next_taken true true false z h = none_some RestedOn (sym h)
+next_taken a b y z h = grind (arith, nat_tests)
 
 module _ (p : Plan) (kp : Keeps p) (slots : List Slot) (fits : TableFits p slots) (conf : Configuration p (held p (counts p slots))) (e : Event) where
   by_counts : JudgedByCounts p (counts p slots) e
@@ -76,14 +69,11 @@ module _ (p : Plan) (kp : Keeps p) (slots : List Slot) (fits : TableFits p slots
   unfolding counts take_back_check_by
   take_back_same = outer (ltb e.task (task_count p)) (place_of p e.task e.word) ∙ sym (ap checked by_counts.on_take_back)
     where
-      plus : (n : ℕ) → n + 1 ≡ suc n
-      plus n = omega arith
-
       inner : (i : ℕ) → take_back_own p slots e i ≡ checked (cond (not (ltb (rank i e.side) (counts p slots e.task))) (Some Absent) (cond (not (eqb (suc (rank i e.side)) (counts p slots e.task) && links_free p (counts p slots) (type_of e) e.word)) (Some RestedOn) None))
       inner i =
           take_back_tests (ltb (rank i e.side) (counts p slots e.task)) (eqb (rank i e.side + 1) (counts p slots e.task)) (links_free_by p slots (type_of e) e.word (link_count p))
           ∙ ap (λ (b : Bool). checked (cond (not (ltb (rank i e.side) (counts p slots e.task))) (Some Absent) (cond (not (eqb (rank i e.side + 1) (counts p slots e.task) && b)) (Some RestedOn) None))) (sym (all_free p kp slots fits (type_of e) e.word))
-          ∙ ap (λ (n : ℕ). checked (cond (not (ltb (rank i e.side) (counts p slots e.task))) (Some Absent) (cond (not (eqb n (counts p slots e.task) && links_free p (counts p slots) (type_of e) e.word)) (Some RestedOn) None))) (plus (rank i e.side))
+          ∙ ap (λ (n : ℕ). checked (cond (not (ltb (rank i e.side) (counts p slots e.task))) (Some Absent) (cond (not (eqb n (counts p slots e.task) && links_free p (counts p slots) (type_of e) e.word)) (Some RestedOn) None))) (add-one (rank i e.side))
 
       outer : (a : Bool) (o : Option ℕ) → ◌≡◌ {A = Result (Unit {0}) Refusal} (cond a (maybe o (Err NoWord) (take_back_own p slots e)) (Err NoTask))
           (checked (cond (not a) (Some NoTask) (maybe o (Some NoWord) (λ i. cond (not (ltb (rank i e.side) (counts p slots e.task))) (Some Absent) (cond (not (eqb (suc (rank i e.side)) (counts p slots e.task) && links_free p (counts p slots) (type_of e) e.word)) (Some RestedOn) None)))))
@@ -102,7 +92,7 @@ module _ (p : Plan) (kp : Keeps p) (slots : List Slot) (fits : TableFits p slots
     next_count = next_one p kp (held p (counts p slots)) e.task (counts p slots e.task) ready.of_plan.0 e.word e.side (held_told p kp (counts p slots) e.task) (place_word p _ _ _ ready.of_plan.1) ready.waits ready.supported
 
     below : ready.of_plan.0 < length (words_of p e.task)
-    below = nth_within (words_of p e.task) _ _ (place_word p _ _ _ ready.of_plan.1)
+    below = slice_get_within (words_of p e.task) _ _ (place_word p _ _ _ ready.of_plan.1)
 
     fit : SlotFits p e.task (slot_of slots e.task)
     fit = fits.slot e.task known
@@ -173,7 +163,7 @@ pub shown_conf : (p : Plan) (slots : List Slot) (cs : List Call) → Shows p slo
 shown_conf p slots cs s = subst (Configuration p) s.same (always_a_configuration p cs)
 
 module _ (p : Plan) (kp : Keeps p) (slots : List Slot) (e : Event) (r : Result (Unit {0}) Refusal) (left : List Slot) where
-  pub post_answers : r ≡ post_by p slots e → left ≡ posted_by p slots e → Answers p slots (Post e) (told r) left
+  post_answers : r ≡ post_by p slots e → left ≡ posted_by p slots e → Answers p slots (Post e) (told r) left
   unfolding reply
   post_answers a b =
       record {
@@ -186,7 +176,7 @@ module _ (p : Plan) (kp : Keeps p) (slots : List Slot) (e : Event) (r : Result (
             (subst (λ (ss : List Slot). Shows p ss (after p (held p (counts p slots)) (Post e))) (sym b) (post_leaves p kp slots s.fit (shown_conf p slots cs s) e)));
       }
 
-  pub take_back_answers : r ≡ take_back_by p slots e → left ≡ taken_back_by p slots e → Answers p slots (TakeBack e) (told r) left
+  take_back_answers : r ≡ take_back_by p slots e → left ≡ taken_back_by p slots e → Answers p slots (TakeBack e) (told r) left
   unfolding reply
   take_back_answers a b =
       record {
@@ -200,10 +190,36 @@ module _ (p : Plan) (kp : Keeps p) (slots : List Slot) (e : Event) (r : Result (
       }
 
 -- A refused call leaves the slots.
-pub refused_leaves : (r x : Result (Unit {0}) Refusal) (slots left new : List Slot) → r ≡ x → left ≡ cond (is_ok x) new slots → is_ok r ≡ false → left ≡ slots
+refused_leaves : (r x : Result (Unit {0}) Refusal) (slots left new : List Slot) → r ≡ x → left ≡ cond (is_ok x) new slots → is_ok r ≡ false → left ≡ slots
 refused_leaves r x slots left new a b h = b ∙ ap (λ (y : Bool). cond y new slots) (sym (ap is_ok a) ∙ h)
+
+told_refused : (r : Result (Unit {0}) Refusal) (x : Refusal) → told r ≡ refused x → is_ok r ≡ false
+told_refused (Ok v) x h = cc
+told_refused (Err y) x h = refl
+
+-- A post or a take-back on a run.
+module _ {S : Type 0} (plan : S → Plan) (run : Run S) (keeps : Keeps (plan run.source)) (e : Event) (r : Result (Unit {0}) Refusal) (left : List Slot) where
+  kept : (x : Result (Unit {0}) Refusal) (new : List Slot) → r ≡ x → left ≡ cond (is_ok x) new run.table.slots → (y : Refusal) → told r ≡ refused y → ◌≡◌ {A = Run S} (record { source = run.source; table = record { slots = left } }) run
+  kept x new a b y h = ap (λ (ss : List Slot). record { source = run.source; table = record { slots = ss } }) (refused_leaves r x run.table.slots left new a b (told_refused r y h))
+
+  pub post_performs : r ≡ post_by (plan run.source) run.table.slots e → left ≡ posted_by (plan run.source) run.table.slots e
+      → Performs plan run (Post e) (told r) (record { source = run.source; table = record { slots = left } })
+  post_performs a b =
+      record {
+        answers = post_answers (plan run.source) keeps run.table.slots e r left a b;
+        source = refl;
+        unchanged = kept _ _ a b;
+      }
+
+  pub take_back_performs : r ≡ take_back_by (plan run.source) run.table.slots e → left ≡ taken_back_by (plan run.source) run.table.slots e
+      → Performs plan run (TakeBack e) (told r) (record { source = run.source; table = record { slots = left } })
+  take_back_performs a b =
+      record {
+        answers = take_back_answers (plan run.source) keeps run.table.slots e r left a b;
+        source = refl;
+        unchanged = kept _ _ a b;
+      }
 
 -- No call changes another task's slot.
 pub others_left : (b : Bool) (slots left : List Slot) (t : ℕ) (s : Slot) → left ≡ cond b (set slots t s) slots → (u : ℕ) → (u ≡ t → ⊥) → slot_of left u ≡ slot_of slots u
-others_left true slots left t s e u n = ap (λ (ss : List Slot). slot_of ss u) e ∙ get_or-set_other slots t u s blank n
-others_left false slots left t s e u n = ap (λ (ss : List Slot). slot_of ss u) e
+others_left b slots left t s e u n = grind (arith, common_steps, gets)

@@ -4,12 +4,12 @@ use Rattle.std.specs.List.{slice_get}
 use Rattle.runs.specs.declared.refusal.Refusal.{Refusal}
 use Rattle.runs.specs.declared.refusal.Refusal.TheVariants.{NoTask, NoWord, Stands, Waits, Absent, RestedOn}
 use Rattle.plans.specs.declared.event.Event.{Event}
-use Rattle.plans.specs.Ppo.{EventType}
+use Rattle.plans.specs.declared.ends.EventType.{EventType}
 use Rattle.plans.specs.declared.ends.Side.{Side}
 use Rattle.plans.specs.declared.ends.Side.TheVariants.{Start, Finish}
 use Rattle.plans.specs.Plan.{Plan, Link, Keeps, words_of, word_at, place_of, task_count, gives}
 use Rattle.plans.specs.Events.{Configuration}
-use Rattle.plans.specs.Orders.{from_type, to_type, type_of}
+use Rattle.plans.specs.Orders.{type_of}
 use Rattle.runs.specs.Order.{event, event_type, same_type, all}
 use Rattle.runs.specs.Calls.{post_check, take_back_check, with, without, ready, phase, shown}
 use Rattle.runs.specs.Slots.{bit, rank, maybe, held}
@@ -29,20 +29,20 @@ next_place s n = (n + 1 - bit s) / 2
 -- i comes before what the link gives at its from type's next word, or it gives nothing there, or there is no next word
 unfoldable pub link_met : Plan → (ℕ → ℕ) → ℕ → Link → Bool
 link_met p counts i k =
-    maybe (word_at p k.ends.from (next_place k.ends.from_side (counts k.ends.from))) true
-    (λ v. maybe (gives p k v) true (λ w. maybe (place_of p k.ends.to w) true (λ b. ltb i b)))
+    maybe (word_at p k.ends.from.task (next_place k.ends.from.side (counts k.ends.from.task))) true
+    (λ v. maybe (gives p k v) true (λ w. maybe (place_of p k.ends.to.task w) true (λ b. ltb i b)))
 
 -- each link to the event type is met
 unfoldable pub links_met : Plan → (ℕ → ℕ) → EventType → ℕ → Bool
-links_met p counts a i = all (λ k. not (same_type (to_type k.ends) a) || link_met p counts i k) p.links
+links_met p counts a i = all (λ k. not (same_type k.ends.to a) || link_met p counts i k) p.links
 
 -- the event that the link gives at the word stands
 unfoldable pub link_stands : Plan → (ℕ → ℕ) → ℕ → Link → Bool
-link_stands p counts v k = maybe (gives p k v) false (λ w. maybe (place_of p k.ends.to w) false (λ b. ltb (rank b k.ends.to_side) (counts k.ends.to)))
+link_stands p counts v k = maybe (gives p k v) false (λ w. maybe (place_of p k.ends.to.task w) false (λ b. ltb (rank b k.ends.to.side) (counts k.ends.to.task)))
 
 -- no link from the event type gives at the word an event that stands
 unfoldable pub links_free : Plan → (ℕ → ℕ) → EventType → ℕ → Bool
-links_free p counts a v = all (λ k. not (same_type (from_type k.ends) a) || not (link_stands p counts v k)) p.links
+links_free p counts a v = all (λ k. not (same_type k.ends.from a) || not (link_stands p counts v k)) p.links
 
 -- the checks of a post by the counts alone
 unfoldable pub post_check_by : Plan → (ℕ → ℕ) → Event → Option Refusal

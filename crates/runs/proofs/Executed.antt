@@ -1,17 +1,18 @@
 -- Accepted posts are steps of an execution of the plan's partial order, accepted take-backs undo one, and other calls leave what stands.
-use Rattle.std.proofs.Common.{◌≡◌, Bool, true, false, not, ◌&&◌, ◌||◌, List, [], ◌∷◌, ◌++◌, Some, None, Option, sym, refl, ap, ◌∙◌, subst}
-use Rattle.std.proofs.lemmas.Bool.{and_from, not_from_false}
+use Rattle.std.proofs.Common.{◌≡◌, Bool, true, false, not, ◌&&◌, ◌||◌, List, [], ◌∷◌, ◌++◌, None, Option, sym, refl, ap, ◌∙◌, subst, arith}
+use Rattle.std.proofs.lemmas.Bool.{and_from, not_from_false, false_from_ne_true}
 use Rattle.plans.specs.declared.event.Event.{Event}
 use Rattle.plans.specs.Plan.{Plan, Keeps}
 use Rattle.plans.specs.Events.{Rests, Configuration, same_event}
 use Rattle.plans.proofs.Predecessors.{rest}
 use Rattle.runs.specs.declared.refusal.Refusal.{Refusal}
 use Rattle.runs.specs.declared.calls.Call.{Call}
-use Rattle.runs.specs.declared.calls.Call.TheVariants.{Post, TakeBack, ReadyList, StateTable, Verdict}
-use Rattle.runs.specs.Calls.{accepted, nothing, with, without, post_check, take_back_check, unless, after, standing_from, standing, refused_or, reply}
+use Rattle.runs.specs.declared.calls.Call.TheVariants.{Post, TakeBack}
+use Rattle.runs.specs.Calls.{accepted, nothing, with, without, post_check, take_back_check, unless, after, standing_from, standing, reply}
 use Rattle.runs.specs.Laws.{Same, Step}
-use Rattle.runs.proofs.Tests.{no_true, event_true, event_same}
+use Rattle.runs.proofs.Tests.{event_true, event_same}
 use Rattle.runs.proofs.Stands.{conf_closed, post_clear, take_back_clear, take_back_known, always_a_configuration, none_refused, standing_more}
+use Rattle.std.proofs.lemmas.Bool.Decides.{nat_tests}
 
 pub from_nothing : (p : Plan) (e : Event) → standing p [] e ≡ false
 unfolding standing standing_from nothing
@@ -30,8 +31,7 @@ post_step p kp has e h =
 
 -- an event put back
 back : (b x : Bool) → (b ≡ true → x ≡ true) → x ≡ (b || (not b && x))
-back true x h = h refl
-back false x h = refl
+back b x h = grind arith
 
 undone_step : (p : Plan) → Keeps p → (has : Event → Bool) → Configuration p has → (e : Event) → take_back_check p has e ≡ None → Step p (without e has) e has
 unfolding without
@@ -43,7 +43,7 @@ undone_step p kp has conf e h =
       inside = λ d before.
           let r = rest p kp e d before in
           and_from _ _
-          (not_from_false _ (no_true _ (λ q. take_back_clear p has conf e h e stands (subst (Rests p e) (event_true d e q) r))))
+          (not_from_false _ (false_from_ne_true _ (λ q. take_back_clear p has conf e h e stands (subst (Rests p e) (event_true d e q) r))))
           (conf_closed p has conf e d stands r);
       adds = λ d. back (same_event d e) (has d) (λ q. subst (λ (x : Event). has x ≡ true) (sym (event_true d e q)) stands);
     }
@@ -55,19 +55,7 @@ take_back_step p kp has conf e h =
 
 other_call : (p : Plan) (has : Event → Bool) (c : Call) → (reply p has c ≡ accepted → ⊥) → Same (after p has c) has
 unfolding after reply
-other_call p has (Post e) n = go (post_check p has e) n
-  where
-    go : (o : Option Refusal) → (refused_or o accepted ≡ accepted → ⊥) → Same (unless o (with e has) has) has
-    go None n d = absurd (n refl)
-    go (Some x) n d = refl
-other_call p has (TakeBack e) n = go (take_back_check p has e) n
-  where
-    go : (o : Option Refusal) → (refused_or o accepted ≡ accepted → ⊥) → Same (unless o (without e has) has) has
-    go None n d = absurd (n refl)
-    go (Some x) n d = refl
-other_call p has (ReadyList room) n = λ d. refl
-other_call p has (StateTable room) n = λ d. refl
-other_call p has (Verdict budget) n = λ d. refl
+other_call p has c n = grind (arith, nat_tests)
 
 module _ (p : Plan) (kp : Keeps p) (cs : List Call) where
   pub posts_are_steps : (e : Event) → reply p (standing p cs) (Post e) ≡ accepted → Step p (standing p cs) e (standing p (cs ++ (Post e ∷ [])))

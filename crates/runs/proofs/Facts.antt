@@ -1,68 +1,88 @@
 -- What the rules of a plan give of its replies, and the steps of the loops over links and tasks.
-use Rattle.std.proofs.Common.{◌≡◌, ℕ, zero, suc, ◌+◌, ◌<◌, ◌≤◌, Bool, true, false, ◌&&◌, ◌≢◌, List, [], length, get_or, set, replicate, Some, unwrap_or, sym, refl, ap, ◌∙◌, subst, ⊎_elim, add-one, arith, get_or-set_other, get_or-set_same, below_more}
-use Rattle.std.proofs.lemmas.List.{get_or_past, get_or_default, same_lists}
-use Rattle.std.proofs.lemmas.Bool.{and_left, and_right, and_from, cases_eq}
-use Rattle.std.specs.List.{slice_get}
+use Rattle.std.proofs.Common.{◌≡◌, ℕ, zero, suc, ◌+◌, ◌<◌, ◌≤◌, Bool, true, false, ◌&&◌, List, [], ◌∷◌, ◌++◌, length, get_or, Some, unwrap_or, sym, refl, ap, ◌∙◌, subst, add-one, arith, rules}
+use Rattle.std.proofs.lemmas.List.Folds.{list_all-append}
+use Rattle.std.proofs.lemmas.List.{same_lists}
+use Rattle.std.proofs.lemmas.Option.{slice_get_within}
+use Rattle.std.proofs.lemmas.Bool.{and_from}
+use Rattle.std.specs.Array.{IsFromFnResult, IsFromFnResultFrom}
+use Rattle.std.specs.Fn.{Called}
+use denote.Param.Members.{Mut}
+use Rattle.std.specs.List.{slice_get, list_all, range_with_len}
 use Rattle.plans.specs.declared.ends.Ends.{Ends}
 use Rattle.plans.specs.Plan.{Plan, Keeps, words_of, word_at, task_count, place_of, link_ends}
 use Rattle.runs.specs.declared.table.Slot.{Slot}
-use Rattle.runs.specs.Slots.{fresh, blank, opened_from, opened}
-use Rattle.plans.proofs.Places.{nth_within, mapped_some}
+use Rattle.runs.specs.Slots.{fresh, opened_from, opened}
 use Rattle.runs.proofs.Places.{place_word}
+use Rattle.plans.proofs.Places.{option_map_some}
 
 module _ (p : Plan) (keeps : Keeps p) where
   pub place_known : (t w i : ℕ) → Some i ≡ place_of p t w → i < 65536
-  place_known t w i e = omega (arith, nth_within (words_of p t) i w (place_word p t i w (sym e)), keeps.few_words t)
+  place_known t w i e = omega (arith, slice_get_within (words_of p t) i w (place_word p t i w (sym e)), keeps.few_words t)
 
-  pub to_small : (l : ℕ) (e : Ends) → Some e ≡ link_ends p l → e.to < 64
+  pub to_small : (l : ℕ) (e : Ends) → Some e ≡ link_ends p l → e.to.task < 64
   to_small l e q =
-      let r = mapped_some (λ k. k.ends) (slice_get p.links l) e (sym q) in
+      let r = option_map_some (λ k. k.ends) (slice_get p.links l) e (sym q) in
       let k = (keeps.links_keep l r.0 r.1).to_known in
-      let s : r.0.ends.to ≡ e.to = ap (λ (x : Ends). x.to) r.2 in
+      let s : r.0.ends.to.task ≡ e.to.task = ap (λ (x : Ends). x.to.task) r.2 in
       let t : task_count p ≤ 64 = keeps.few_tasks in
       omega (arith, k, s, t)
 
-  pub from_small : (l : ℕ) (e : Ends) → Some e ≡ link_ends p l → e.from < 64
+  pub from_small : (l : ℕ) (e : Ends) → Some e ≡ link_ends p l → e.from.task < 64
   from_small l e q =
-      let r = mapped_some (λ k. k.ends) (slice_get p.links l) e (sym q) in
+      let r = option_map_some (λ k. k.ends) (slice_get p.links l) e (sym q) in
       let k = (keeps.links_keep l r.0 r.1).from_known in
-      let s : r.0.ends.from ≡ e.from = ap (λ (x : Ends). x.from) r.2 in
+      let s : r.0.ends.from.task ≡ e.from.task = ap (λ (x : Ends). x.from.task) r.2 in
       let t : task_count p ≤ 64 = keeps.few_tasks in
       omega (arith, k, s, t)
 
-  pub ends_apart : (l : ℕ) (e : Ends) → Some e ≡ link_ends p l → e.from ≡ e.to → ⊥
+  pub ends_apart : (l : ℕ) (e : Ends) → Some e ≡ link_ends p l → e.from.task ≡ e.to.task → ⊥
   ends_apart l e q h =
-      let r = mapped_some (λ k. k.ends) (slice_get p.links l) e (sym q) in
+      let r = option_map_some (λ k. k.ends) (slice_get p.links l) e (sym q) in
       let k = (keeps.links_keep l r.0 r.1).apart in
-      k (subst (λ (x : Ends). x.from ≡ x.to) (sym r.2) h)
+      k (subst (λ (x : Ends). x.from.task ≡ x.to.task) (sym r.2) h)
 
 -- What fails at one number below n fails of all below n; what holds of all below l and of l holds of all below l + 1.
 module _ (one : ℕ → Bool) (all : ℕ → Bool) (more : (l : ℕ) → all (suc l) ≡ (one l && all l)) where
   pub none_below : (l n : ℕ) → l < n → false ≡ one l → false ≡ all n
   none_below l zero h e = absurd (omega arith)
-  none_below l (suc n) h e = sym (more n ∙ ⊎_elim
-      (λ (q : l ≡ n). and_left (one n) (all n) (subst (λ (x : ℕ). one x ≡ false) q (sym e)))
-      (λ (q : l ≡ n → ⊥). let k : l < n = omega arith in and_right (one n) (all n) (sym (none_below l n k e))) (cases_eq l n))
+  none_below l (suc n) h e = grind (arith, more n, none_below l n)
 
   pub all_more : (l : ℕ) → true ≡ one l → all l ≡ true → all (l + 1) ≡ true
   all_more l h k = rw add-one (more l ∙ and_from (one l) (all l) (sym h) k)
 
--- A table that is filled from its front.
-pub filled_more : {X : Type 0} (f : ℕ → X) (xs : List X) (d : X) (i : ℕ) (x : X) → i < length xs → x ≡ f i
-    → ((t : ℕ) → t < i → get_or xs t d ≡ f t) → (t : ℕ) → t < i + 1 → get_or (set xs i x) t d ≡ f t
-filled_more f xs d i x h e all = below_more _ i (λ k l. let ne : k ≢ i = omega arith in rw get_or-set_other (all k l)) (rw get_or-set_same e)
+range_more : (a n : ℕ) → range_with_len a (suc n) ≡ range_with_len a n ++ ((a + n) ∷ [])
+range_more a zero = let e : a ≡ a + 0 = omega arith in ap (λ (x : ℕ). x ∷ []) e
+range_more a (suc n) =
+    let e : (a + 1) + n ≡ a + suc n = omega arith in
+    ap (λ (xs : List ℕ). a ∷ xs) (range_more (a + 1) n ∙ ap (λ (x : ℕ). range_with_len (a + 1) n ++ (x ∷ [])) e)
 
-pub rest_more : {X : Type 0} (xs : List X) (d e : X) (i : ℕ) (x : X) → ((t : ℕ) → i ≤ t → get_or xs t d ≡ e) → (t : ℕ) → i + 1 ≤ t → get_or (set xs i x) t d ≡ e
-rest_more xs d e i x all t l = let ne : t ≢ i = omega arith in rw get_or-set_other (all t (omega arith))
+-- a test of the numbers below n, from the first on, against one from the last on
+pub all_below : (one : ℕ → Bool) (all : ℕ → Bool) → all 0 ≡ true → ((l : ℕ) → all (suc l) ≡ (one l && all l)) → (n : ℕ) → list_all one (range_with_len 0 n) ≡ all n
+all_below one all none more zero = sym none
+all_below one all none more (suc n) =
+    let e : 0 + n ≡ n = omega arith in
+    ap (list_all one) (range_more 0 n ∙ ap (λ (x : ℕ). range_with_len 0 n ++ (x ∷ [])) e)
+    ∙ list_all-append one (range_with_len 0 n) (n ∷ [])
+    ∙ last (list_all one (range_with_len 0 n)) (all n) (one n) (all_below one all none more n)
+    ∙ sym (more n)
+  where
+    last : (x y z : Bool) → x ≡ y → (x && (z && true)) ≡ (z && y)
+    last x y true h = grind rules
+    last x y false h = grind rules
 
-pub all_same : {X : Type 0} (n : ℕ) (x d : X) → x ≡ d → (t : ℕ) → get_or (replicate n x) t d ≡ d
-all_same zero x d e t = refl
-all_same (suc n) x d e zero = e
-all_same (suc n) x d e (suc t) = all_same n x d e t
+-- What an array is made of, where each call of the closure leaves it as it is and gives the value at the index.
+module _ {F X : Type 0} (g : Mut F (ℕ × Unit {0}) X) (f : F) (value : ℕ → X) (gives : (i : ℕ) (y : X) (q : F) → Called g f (i, tt) y q → (q ≡ f) × (y ≡ value i)) (xs : List X) where
+  made_from : (i n : ℕ) → IsFromFnResultFrom g f xs i n → (k : ℕ) → k < n → (d : X) → get_or xs (i + k) d ≡ value (i + k)
+  made_from i zero made k h d = absurd (omega arith)
+  made_from i (suc n) made zero h d =
+      let here : i + 0 ≡ i = omega arith in
+      rw here (made.2.1 d ∙ (gives i made.1 made.0 made.3).1)
+  made_from i (suc n) made (suc k) h d =
+      let on : i + suc k ≡ (i + 1) + k = omega arith in
+      rw on (made_from (i + 1) n (subst (λ (q : F). IsFromFnResultFrom g q xs (i + 1) n) (gives i made.1 made.0 made.3).0 made.4) k (omega arith) d)
 
--- past the last task there is no word
-pub first_past : (p : Plan) (t : ℕ) → task_count p ≤ t → fresh (unwrap_or (word_at p t 0) 0) ≡ blank
-first_past p t h = let e : words_of p t ≡ [] = get_or_past p.tasks t [] h in ap (λ (ws : List ℕ). fresh (unwrap_or (slice_get ws 0) 0)) e
+  pub made_at : (n : ℕ) → IsFromFnResult g f xs n → (k : ℕ) → k < n → (d : X) → get_or xs k d ≡ value k
+  made_at n made k h d = let here : 0 + k ≡ k = omega arith in rw here at (made_from 0 n made.each k h d)
 
 pub opened_length : (p : Plan) (t n : ℕ) → length (opened_from p t n) ≡ n
 opened_length p t zero = refl
@@ -73,7 +93,7 @@ opened_at p t zero i d h = absurd (omega arith)
 opened_at p t (suc n) zero d h = ap (λ (u : ℕ). fresh (unwrap_or (word_at p u 0) 0)) (let e : t ≡ t + 0 = omega arith in e)
 opened_at p t (suc n) (suc i) d h = opened_at p (suc t) n i d (omega arith) ∙ ap (λ (u : ℕ). fresh (unwrap_or (word_at p u 0) 0)) (let e : suc t + i ≡ t + suc i = omega arith in e)
 
-pub is_opened : (p : Plan) (ss : List Slot) → length ss ≡ 64 → ((t : ℕ) → get_or ss t blank ≡ fresh (unwrap_or (word_at p t 0) 0)) → ss ≡ opened p
+pub is_opened : (p : Plan) (ss : List Slot) → length ss ≡ 64 → ((t : ℕ) → t < 64 → (d : Slot) → get_or ss t d ≡ fresh (unwrap_or (word_at p t 0) 0)) → ss ≡ opened p
 is_opened p ss long at =
     same_lists ss (opened p) (long ∙ sym (opened_length p 0 64))
-    (λ k d h. get_or_default ss k d blank h ∙ at k ∙ ap (λ (u : ℕ). fresh (unwrap_or (word_at p u 0) 0)) (let e : k ≡ 0 + k = omega arith in e) ∙ sym (opened_at p 0 64 k d (omega (arith, long))))
+    (λ k d h. at k (omega (arith, long)) d ∙ ap (λ (u : ℕ). fresh (unwrap_or (word_at p u 0) 0)) (let e : k ≡ 0 + k = omega arith in e) ∙ sym (opened_at p 0 64 k d (omega (arith, long))))

@@ -1,4 +1,5 @@
 pub mod Tests
+pub mod TaskSets
 pub mod Places
 pub mod Order
 pub mod Stands

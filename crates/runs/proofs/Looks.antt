@@ -1,33 +1,42 @@
 -- What the slots tell of ready lists, state tables and a new run.
-use Rattle.std.proofs.Common.{◌≡◌, ℕ, zero, suc, ◌+◌, ◌-◌, ◌*◌, ◌/◌, ◌%◌, ◌^◌, ◌<◌, ◌≤◌, Bool, true, false, cond, ltb, List, [], ◌∷◌, ◌++◌, length, get_or, take, drop, is_ok, Some, None, Option, unwrap_or, sym, refl, ap, ◌∙◌, subst, ap₂, ⊎_elim, append_assoc, append-nil, arith, length-append, take_at}
+use Rattle.std.proofs.Common.{◌≡◌, ℕ, zero, suc, ◌+◌, ◌-◌, ◌*◌, ◌/◌, ◌%◌, ◌^◌, ◌<◌, ◌≤◌, Bool, false, cond, ltb, List, [], ◌∷◌, ◌++◌, length, get_or, drop, is_ok, Some, None, Ok, Err, Option, Result, unwrap_or, sym, refl, ap, ◌∙◌, subst, ap₂, ⊎_elim, append_assoc, append-nil, arith}
 use mathlib.Core.Path.{fun_ext}
 use lib.Seq.{paste}
 use Rattle.std.proofs.lemmas.List.{at_drop_more, at_drop_all}
-use Rattle.std.proofs.lemmas.Option.{slice_get_past}
-use Rattle.std.proofs.lemmas.Bool.{lt-ltb, le-ltb, eq-eqb, ne_eqb, cond-true, cond-false, cases_lt, both_ways}
+use Rattle.std.proofs.lemmas.Option.{slice_get_past, gets}
+use Rattle.std.proofs.lemmas.Bool.{lt-ltb, le-ltb, eq-eqb, ne_eqb, cond-true, cond-false, cases_lt}
 use Rattle.std.specs.List.{slice_get}
+use Rattle.std.specs.Result.{IsErrAnd}
 use Rattle.plans.specs.declared.event.Event.{Event}
+use Rattle.plans.specs.declared.row.Full.{Full}
 use Rattle.plans.specs.declared.ends.Side.{Side}
 use Rattle.plans.specs.declared.ends.Side.TheVariants.{Start, Finish}
 use Rattle.plans.specs.Plan.{Plan, Keeps, words_of, word_at, place_of, task_count}
 use Rattle.plans.specs.Events.{Configuration}
 use Rattle.runs.specs.Order.{event, event_type}
+use Rattle.runs.specs.declared.calls.Answer.{Answer}
 use Rattle.runs.specs.declared.calls.Call.{Call}
 use Rattle.runs.specs.declared.calls.Call.TheVariants.{ReadyList, StateTable, Verdict}
+use Rattle.runs.specs.declared.refusal.Refusal.{Refusal}
 use Rattle.runs.specs.declared.refusal.Refusal.TheVariants.{NoRoom}
 use Rattle.runs.specs.declared.table.Slot.{Slot}
 use Rattle.runs.specs.Calls.{Reply, refused, lists, fills, nothing, standing, standing_from, after, reply, ready, bytes, entry, table_from, table}
 use Rattle.runs.specs.Slots.{maybe, rank, held, fresh, blank, slot_of, progress, SlotFits, TableFits, slot_count, counts, opened, post_by, gathered, row, rows, ready_of, ready_to}
 use Rattle.runs.proofs.Counting.{side_of_lem, links_met, next_ready, ready_from}
-use Rattle.runs.specs.Shows.{Shows, Answers}
-use Rattle.runs.proofs.Places.{below_nth, place_word, word_place}
+use Rattle.runs.specs.declared.lent.List as lent
+use Rattle.runs.specs.Lent.{Holds, added}
+use Rattle.runs.specs.declared.run.Run.{Run}
+use Rattle.runs.specs.Shows.{Shows, Answers, Performs, written, said}
+use Rattle.runs.proofs.Places.{place_word}
 use Rattle.runs.proofs.Readies.{ready_by_counts}
 use Rattle.runs.proofs.Slots.{Flags, flags, now_done, now_running, now_waiting, few, all_met, is_at, reading, count_at, slot_unknown}
 use Rattle.runs.proofs.Facts.{opened_length, opened_at}
 use Rattle.runs.proofs.Limits.{post_links}
-use Rattle.runs.proofs.Rows.{listed_new, listed_front, listed_beyond}
+use Rattle.runs.proofs.Rows.{listed_new}
 use Rattle.runs.proofs.Answered.{shown_conf}
 use Rattle.runs.proofs.Stands.{standing_more}
+use Rattle.std.proofs.lemmas.Bool.Decides.{nat_tests}
+use Rattle.std.proofs.lemmas.Grind.{common_steps}
 
 -- What is gathered up to the end of a list of tasks, against a walk over the list.
 module _ {A : Type 0} (g : ℕ → List A) (f : ℕ → List ℕ → List A) (from : ℕ → List (List ℕ) → List A)
@@ -54,8 +63,7 @@ side_odd : (n i : ℕ) → n ≡ 2 * i + 1 → side_of_lem n ≡ Finish
 side_odd n i h = ap (λ (b : Bool). cond b Start Finish) (ne_eqb (n % 2) 0 (λ q. omega arith))
 
 once : (b : Bool) (e : Event) → maybe (cond b (Some e) None) [] (λ x. x ∷ []) ≡ cond b (e ∷ []) []
-once true e = refl
-once false e = refl
+once b e = grind (arith, nat_tests)
 
 module _ (p : Plan) (kp : Keeps p) (slots : List Slot) (fits : TableFits p slots) where
   module _ (t : ℕ) (known : t < task_count p) where
@@ -159,6 +167,11 @@ module _ (p : Plan) (kp : Keeps p) (slots : List Slot) where
       let e = ready_is p kp slots s.fit (shown_conf p slots cs s) in
       sym (cond-true (ltb n (length (ready p (held p (counts p slots))))) _ _ (lt-ltb n _ (omega (arith, ap length e)))))
 
+-- a call that leaves the run
+pub performs : {S : Type 0} {plan : S → Plan} {old new : Run S} {call : Call} {r : Reply} → new ≡ old → Answers (plan old.source) old.table.slots call r old.table.slots → Performs plan old call r new
+performs {plan = plan} {old = old} {call = call} {r = r} same a =
+    subst (λ (run : Run _). Performs plan old call r run) (sym same) (record { answers = a; source = refl; unchanged = λ x e. refl })
+
 -- the same call by another name
 pub as_call : {p : Plan} {slots : List Slot} {r : Reply} {left : List Slot} (x y : Call) → y ≡ x → Answers p slots x r left → Answers p slots y r left
 as_call {p} {slots} {r} {left} x y e a = subst (λ (z : Call). Answers p slots z r left) (sym e) a
@@ -171,34 +184,38 @@ other_room p slots a b r l m x = looked p slots (StateTable b) r (table_left p b
     (x.replied cs s ∙ cond-false (ltb a (5 * task_count p)) _ _ (le-ltb a _ l) ∙ sym (cond-false (ltb b (5 * task_count p)) _ _ (le-ltb b _ m))))
 
 -- The ready events as they are added to a list.
-module _ (p : Plan) (kp : Keeps p) (slots : List Slot) (room left xs : List Event) (at end : ℕ) (b : Bool) (is : xs ≡ ready_to p slots (task_count p)) (fits : at ≤ length room)
-    (full : length room < at + length xs → (b ≡ false) × (end ≡ at) × (left ≡ room))
-    (added : at + length xs ≤ length room → (b ≡ true) × (end ≡ at + length xs) × (left ≡ paste room at xs (length xs))) where
-  pub ready_added : b ≡ true → Answers p slots (ReadyList (length room - at)) (lists (drop at (take end left))) slots × (take at left ≡ take at room) × (drop end left ≡ drop end room)
+module _ (p : Plan) (kp : Keeps p) (slots : List Slot) (old new : lent.List Event) (xs : List Event) (r : Result (Unit {0}) Full)
+    (full : length old.room.now < old.len + length xs → (r ≡ Err (record {})) × Holds new old.len old.room.now)
+    (appended : old.len + length xs ≤ length old.room.now → (r ≡ Ok tt) × Holds new (old.len + length xs) (paste old.room.now old.len xs (length xs)))
+    (is : xs ≡ ready_to p slots (task_count p)) where
+  pub ready_added : r ≡ Ok tt → Answers p slots (ReadyList (length old.room.now - old.len)) (lists (added old new)) slots
   ready_added q =
-      ⊎_elim (λ l. absurd (both_ways b (full l).0 q))
+      ⊎_elim (λ l. let e = (full l).0 in absurd cc)
       (λ l.
-      let a = added l in
-      let new : drop at (take end left) ≡ xs = rw (a.1, a.2) (listed_new room xs at (length xs) l refl) in (
-        ready_answers p kp slots (length room - at) (drop at (take end left)) (omega (arith, ap length new)) (new ∙ is),
-        rw a.2 (listed_front room xs at (length xs) l refl),
-        rw (a.1, a.2) (listed_beyond room xs at (length xs) l refl),
-      ))
-      (cases_lt (length room) (at + length xs))
+      let a = (appended l).1 in
+      let fresh : added old new ≡ xs = rw (a.0, a.1) (listed_new old.room.now xs old.len (length xs) l refl) in
+      ready_answers p kp slots (length old.room.now - old.len) (added old new) (omega (arith, ap length fresh)) (fresh ∙ is))
+      (cases_lt (length old.room.now) (old.len + length xs))
 
-  pub ready_kept : b ≡ false → Answers p slots (ReadyList (length room - at)) (refused NoRoom) slots × (end ≡ at) × (left ≡ room)
-  ready_kept q =
-      ⊎_elim (λ l. (ready_refused p kp slots (length room - at) (omega (arith, ap length is)), (full l).1, (full l).2))
-      (λ l. absurd (both_ways b q (added l).0))
-      (cases_lt (length room) (at + length xs))
+  pub ready_kept : (f : Full) → r ≡ Err f → Answers p slots (ReadyList (length old.room.now - old.len)) (refused NoRoom) slots
+  ready_kept f q =
+      ⊎_elim (λ l. ready_refused p kp slots (length old.room.now - old.len) (omega (arith, ap length is, old.fits)))
+      (λ l. let e = (appended l).0 in absurd cc)
+      (cases_lt (length old.room.now) (old.len + length xs))
 
--- The bytes of the first n slots.
-pub rows_length : (slots : List Slot) (n : ℕ) → length (rows slots n) ≡ 5 * n
-rows_length slots zero = omega arith
-rows_length slots (suc n) = length-append (rows slots n) (row (slot_of slots n)) ∙ (let h = rows_length slots n in omega arith)
+-- what was added is not refused
+pub not_full : (r : Result (Unit {0}) Full) (full : Full) → r ≡ Ok tt → r ≡ Err full → ⊥
+not_full r full ok err = cc
 
-pub front_is : {X : Type 0} (xs ys : List X) (n : ℕ) → length xs ≡ n → take n (xs ++ ys) ≡ xs
-front_is xs ys n h = take_at xs ys n h
+-- the reply where there is no room
+pub no_room : (r : Result (Unit {0}) Refusal) (x : Reply) → IsErrAnd r (λ e. e ≡ NoRoom) → written r x ≡ refused NoRoom
+no_room (Ok v) x h = absurd h
+no_room (Err e) x h = ap refused h
+
+-- the reply where a refusal is passed on
+pub passed_on : (r : Result Answer Refusal) (x : Refusal) → IsErrAnd r (λ e. e ≡ x) → said r ≡ refused x
+passed_on (Ok v) x h = absurd h
+passed_on (Err e) x h = ap refused h
 
 -- A new run shows that nothing stands.
 module _ (p : Plan) (kp : Keeps p) where
@@ -206,9 +223,7 @@ module _ (p : Plan) (kp : Keeps p) where
   opened_slot t h = opened_at p 0 64 t blank h ∙ ap (λ (u : ℕ). fresh (unwrap_or (word_at p u 0) 0)) (let e : 0 + t ≡ t = omega arith in e)
 
   first_word : (t : ℕ) → t < task_count p → place_of p t (unwrap_or (word_at p t 0) 0) ≡ Some 0
-  first_word t h =
-      let v = below_nth (words_of p t) 0 (omega (arith, kp.some_words t h)) in
-      ap (λ (o : Option ℕ). place_of p t (unwrap_or o 0)) v.1 ∙ word_place p kp t 0 v.0 v.1
+  first_word t h = grind (arith, common_steps, gets)
 
   opened_fits : TableFits p (opened p)
   opened_fits =

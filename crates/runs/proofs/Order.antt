@@ -1,43 +1,30 @@
 -- The test `rests` decides what rests on what, and secured lists are closed.
-use Rattle.std.proofs.Common.{◌≡◌, ℕ, Bool, true, false, cond, not, ◌&&◌, eqb, List, ◌∷◌, Some, None, Option, sym, refl, ap, ◌∙◌, subst, ⊎_elim}
+use Rattle.std.proofs.Common.{◌≡◌, ℕ, Bool, true, false, cond, not, ◌&&◌, eqb, List, ◌∷◌, Some, Option, sym, refl, subst, ⊎_elim, arith}
 use mathlib.Core.Path.{fun_ext}
-use Rattle.std.proofs.lemmas.Bool.{eqb-true, eq-eqb, and_parts, and_from, or_cases, or_left, or_right, both_ways, cases_Bool, not-true, not_from_false}
+use Rattle.std.proofs.lemmas.Bool.{eqb-true, eq-eqb, and_parts, and_from, or_cases, or_left, or_right, both_ways, cases_Bool, not-true, not_from_false, false_from_ne_true}
 use Rattle.std.specs.List.{slice_get}
-use Rattle.std.specs.Option.{option_map, option_flatten}
+use Rattle.std.specs.Option.{option_map}
 use Rattle.plans.specs.declared.event.Event.{Event}
-use Rattle.plans.specs.Ppo.{EventType}
+use Rattle.plans.specs.declared.ends.EventType.{EventType}
 use Rattle.plans.specs.declared.ends.Side.TheVariants.{Start, Finish}
 use Rattle.plans.specs.Lists.{and_then}
 use Rattle.plans.specs.Plan.{Plan, Link, place_of, next_word, link_ends, target, gives}
 use Rattle.plans.specs.Record.{same_side}
 use Rattle.plans.specs.Events.{OfPlan, Rests, own_start, one_earlier, by_link, between, Secured, none, more, same_event, among}
-use Rattle.plans.specs.Orders.{type_of, from_type, to_type}
+use Rattle.plans.specs.Orders.{type_of}
 use Rattle.runs.specs.Order.{any, all, kept, same_word, events, links_to, rests, rests_on}
 use Rattle.runs.specs.Calls.{with, without}
 use Rattle.runs.specs.Laws.{Supported, Ready}
-use Rattle.runs.proofs.Tests.{no_true, same_bool, side_true, side_eq, type_true, type_eq, event_true, word_true, word_eq, any_at, any_from, among_here, among_there, among_cases, nothing_among, all_among, among_all, kept_from, among_kept}
-use Rattle.plans.proofs.Places.{mapped_some}
-use Rattle.plans.proofs.Walking.{some_eq}
-use Rattle.runs.proofs.Places.{none_some, listed}
-
--- what a reply by way of another comes from
-pub then_some : {A B : Type 0} (o : Option A) (f : A → Option B) (b : B) → and_then o f ≡ Some b → (a : A) × (o ≡ Some a) × (f a ≡ Some b)
-then_some None f b h = none_some b h
-then_some (Some a) f b h = (a, refl, h)
-
--- what a flat reply comes from
-pub flat_some : {A : Type 0} (o : Option (Option A)) (y : A) → option_flatten o ≡ Some y → o ≡ Some (Some y)
-flat_some None y h = none_some y h
-flat_some (Some o) y h = ap Some h
+use Rattle.runs.proofs.Tests.{same_bool, side_eq, type_true, type_eq, event_true, word_true, word_eq, any_at, any_from, among_here, among_there, among_cases, nothing_among, all_among, among_all, kept_from, among_kept}
+use Rattle.runs.proofs.Places.{listed}
+use Rattle.plans.proofs.Places.{and_then_some}
+use Rattle.plans.proofs.Held.{side_is}
+use Rattle.std.proofs.lemmas.Bool.Decides.{nat_tests}
 
 -- a link's reply, by the link
 pub link_at_lem : (p : Plan) (l : ℕ) (d e : Event) → link_ends p l ≡ Some (between d e) → target p l d.word ≡ Some e.word
-    → (k : Link) × (slice_get p.links l ≡ Some k) × (from_type k.ends ≡ type_of d) × (to_type k.ends ≡ type_of e) × (gives p k d.word ≡ Some e.word)
-link_at_lem p l d e q h =
-    let (k, is, ends) = mapped_some (λ x. x.ends) (slice_get p.links l) (between d e) q in
-    let (j, at, reply) = then_some (slice_get p.links l) (λ x. gives p x d.word) e.word h in
-    let z : j ≡ k = some_eq j k (sym at ∙ is) in
-    (k, is, ap from_type ends, ap to_type ends, subst (λ (x : Link). gives p x d.word ≡ Some e.word) z reply)
+    → (k : Link) × (slice_get p.links l ≡ Some k) × (k.ends.from ≡ type_of d) × (k.ends.to ≡ type_of e) × (gives p k d.word ≡ Some e.word)
+link_at_lem p l d e q h = grind (arith, nat_tests)
 
 pub rests_true : (p : Plan) (e d : Event) → rests p e d ≡ true → Rests p e d
 unfolding rests links_to
@@ -48,14 +35,14 @@ rests_true p e d h = ⊎_elim (λ a. ⊎_elim own earlier (or_cases _ _ a)) link
         let a₁ = and_parts _ _ a in
         let a₂ = and_parts _ _ a₁.0 in
         let a₃ = and_parts _ _ a₂.0 in
-        own_start (side_true _ _ a₃.0) (side_true _ _ a₃.1) (eqb-true _ _ a₂.1) (eqb-true _ _ a₁.1)
+        own_start (side_is _ _ a₃.0) (side_is _ _ a₃.1) (eqb-true _ _ a₂.1) (eqb-true _ _ a₁.1)
 
     earlier : same_side e.side Start && same_side d.side Finish && eqb e.task d.task && same_word (next_word p d.task d.word) (Some e.word) ≡ true → Rests p e d
     earlier a =
         let a₁ = and_parts _ _ a in
         let a₂ = and_parts _ _ a₁.0 in
         let a₃ = and_parts _ _ a₂.0 in
-        one_earlier (side_true _ _ a₃.0) (side_true _ _ a₃.1) (eqb-true _ _ a₂.1) (word_true _ _ a₁.1)
+        one_earlier (side_is _ _ a₃.0) (side_is _ _ a₃.1) (eqb-true _ _ a₂.1) (word_true _ _ a₁.1)
 
     linked : any (links_to p e d) p.links ≡ true → Rests p e d
     linked a =
@@ -65,7 +52,7 @@ rests_true p e d h = ⊎_elim (λ a. ⊎_elim own earlier (or_cases _ _ a)) link
         let f = type_true _ _ b₂.0 in
         let t = type_true _ _ b₂.1 in
         by_link r.0
-        (subst (λ (o : Option Link). option_map (λ k. k.ends) o ≡ Some (between d e)) (sym r.2) (λ i. Some (record { from = (f i).task; from_side = (f i).side; to = (t i).task; to_side = (t i).side })))
+        (subst (λ (o : Option Link). option_map (λ k. k.ends) o ≡ Some (between d e)) (sym r.2) (λ i. Some (record { from = f i; to = t i })))
         (subst (λ (o : Option Link). and_then o (λ k. gives p k d.word) ≡ Some e.word) (sym r.2) (word_true _ _ b₁.1))
 
 pub rests_from : (p : Plan) (e d : Event) → Rests p e d → rests p e d ≡ true
@@ -85,10 +72,10 @@ rests_of_plan p e d o (own_start a b c f) = (o.0, subst₂' o.1)
     subst₂' : place_of p e.task e.word ≡ Some o.0 → place_of p d.task d.word ≡ Some o.0
     subst₂' h = rw (← c, ← f) h
 rests_of_plan p e d o (one_earlier a b c f) =
-    let r = then_some (place_of p d.task d.word) _ _ f in (r.0, r.1)
+    let r = and_then_some (place_of p d.task d.word) _ _ f in (r.0, r.1)
 rests_of_plan p e d o (by_link l a b) =
     let r = link_at_lem p l d e a b in
-    let s = then_some (place_of p r.0.ends.from d.word) _ _ r.4 in
+    let s = and_then_some (place_of p r.0.ends.from.task d.word) _ _ r.4 in
     (s.0, subst (λ (t : EventType). place_of p t.task d.word ≡ Some s.0) r.2 s.1)
 
 -- The check over what an event rests on.
@@ -143,8 +130,8 @@ secured_removed p e (more x es s o n c) h = go (secured_removed p e s (λ d k r.
     go : Secured p (removed e es) → (b : Bool) → same_event x e ≡ b → Secured p (cond (not b) (x ∷ removed e es) (removed e es))
     go inner true q = inner
     go inner false q =
-        more x (removed e es) inner o (no_true _ (λ k. both_ways _ n (removed_from e x es k).0))
-        (λ d r. among_removed e d es (c d r) (no_true _ (λ k. h x (among_here x es) (subst (Rests p x) (event_true d e k) r))))
+        more x (removed e es) inner o (false_from_ne_true _ (λ k. both_ways _ n (removed_from e x es k).0))
+        (λ d r. among_removed e d es (c d r) (false_from_ne_true _ (λ k. h x (among_here x es) (subst (Rests p x) (event_true d e k) r))))
 
 -- a secured list stands wherever nothing is ready
 pub grows : (p : Plan) (has : Event → Bool) {es : List Event} → Secured p es → ((e : Event) → Ready p has e → ⊥) → (e : Event) → among es e ≡ true → has e ≡ true

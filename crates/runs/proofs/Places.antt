@@ -1,49 +1,27 @@
 -- Places and words; the events of a plan.
-use Rattle.std.proofs.Common.{◌≡◌, ℕ, zero, suc, ◌+◌, ◌<◌, true, false, List, [], ◌∷◌, length, get_or, is_some, Some, None, Option, sym, refl, ap, ◌∙◌, subst, ⊎_elim, arith}
-use Rattle.std.proofs.lemmas.Bool.{both_ways}
+use Rattle.std.proofs.Common.{◌≡◌, ℕ, zero, suc, ◌+◌, true, List, [], ◌∷◌, get_or, Some, sym, ap, subst, ⊎_elim, arith}
 use Rattle.std.specs.List.{slice_get}
 use Rattle.plans.specs.declared.event.Event.{Event}
 use Rattle.plans.specs.declared.ends.Side.{Side}
 use Rattle.plans.specs.declared.ends.Side.TheVariants.{Start, Finish}
-use Rattle.plans.specs.Plan.{Plan, Keeps, words_of, word_at, place_of}
+use Rattle.plans.specs.Plan.{Plan, words_of, word_at, place_of}
 use Rattle.plans.specs.Events.{OfPlan, among}
 use Rattle.runs.specs.Order.{event, chain, events_from, events}
-use Rattle.plans.proofs.Places.{nth_place_in, place_in_found}
-use Rattle.plans.proofs.Walking.{some_eq, none_some as nothing_some}
+use Rattle.plans.proofs.Places.{slice_get_place_in, place_in_found}
 use Rattle.runs.proofs.Tests.{among_here, among_there, among_cases, nothing_among, among_append_left, among_append_right, among_append_cases}
-
--- nothing is no value
-pub none_some : {A : Type 0} {X : Type 0} (x : A) → ◌≡◌ {A = Option A} None (Some x) → X
-none_some x e = absurd (nothing_some x e)
-
--- what is there is some value
-pub is_there : {A : Type 0} (o : Option A) → is_some o ≡ true → (x : A) × (o ≡ Some x)
-is_there None h = absurd (both_ways false refl h)
-is_there (Some x) h = (x, refl)
-
--- a place within a list holds something
-pub below_nth : {A : Type 0} (xs : List A) (i : ℕ) → i < length xs → (x : A) × (slice_get xs i ≡ Some x)
-below_nth [] i h = absurd (omega arith)
-below_nth (y ∷ ys) zero h = (y, refl)
-below_nth (y ∷ ys) (suc i) h = below_nth ys i (omega arith)
-
--- The place of a word and the word at a place, on a plan that keeps the rules.
-pub word_place : (p : Plan) → Keeps p → (t i w : ℕ) → word_at p t i ≡ Some w → place_of p t w ≡ Some i
-word_place p kp t i w h =
-    let r = place_in_found (words_of p t) w i h in
-    r.1 ∙ ap Some (kp.differ t r.0 i w (nth_place_in (words_of p t) w r.0 r.1) h)
+use Rattle.std.proofs.lemmas.Option.{same_Some, none-some}
 
 pub place_word : (p : Plan) (t i w : ℕ) → place_of p t w ≡ Some i → word_at p t i ≡ Some w
-place_word p t i w h = nth_place_in (words_of p t) w i h
+place_word p t i w h = slice_get_place_in (words_of p t) w i h
 
 -- Events.
 pub chain_among : (t : ℕ) (ws : List ℕ) (i w : ℕ) (s : Side) → slice_get ws i ≡ Some w → among (chain t ws) (event t s w) ≡ true
 unfolding chain
-chain_among t [] i w s h = none_some w h
+chain_among t [] i w s h = absurd (none-some w h)
 chain_among t (v ∷ vs) zero w s h = go s
   where
     k : v ≡ w
-    k = some_eq v w h
+    k = same_Some v w h
 
     go : (s : Side) → among (chain t (v ∷ vs)) (event t s w) ≡ true
     go Start = rw k (among_here (event t Start w) (event t Finish w ∷ chain t vs))
@@ -62,7 +40,7 @@ among_chain t (v ∷ vs) e h =
 
 from_among : (u : ℕ) (wss : List (List ℕ)) (t i w : ℕ) (s : Side) → slice_get (get_or wss t []) i ≡ Some w → among (events_from u wss) (event (u + t) s w) ≡ true
 unfolding events_from
-from_among u [] t i w s h = none_some w h
+from_among u [] t i w s h = absurd (none-some w h)
 from_among u (ws ∷ wss) zero i w s h =
     let z : u + 0 ≡ u = omega arith in
     rw z (among_append_left (chain u ws) (events_from (suc u) wss) (event u s w) (chain_among u ws i w s h))

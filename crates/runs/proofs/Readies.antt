@@ -15,6 +15,7 @@ use Rattle.runs.proofs.Tests.{among_here, among_there}
 use Rattle.runs.proofs.Places.{among_chain}
 use Rattle.runs.proofs.Counts.{held_told}
 use Rattle.runs.proofs.ByCounts.{supports_by}
+use Rattle.std.proofs.lemmas.Bool.Decides.{nat_tests}
 
 kept_nothing : (f : Event → Bool) (es : List Event) → ((d : Event) → among es d ≡ true → f d ≡ false) → kept f es ≡ []
 kept_nothing f [] h = refl
@@ -57,8 +58,7 @@ module _ (f : Event → Bool) (t : ℕ) (m : Bool) where
 
 -- Which events are ready, by the counts.
 rank_half : (i n : ℕ) (s : Side) → rank i s ≡ n → (i ≡ n / 2) × (s ≡ side_of_lem n)
-rank_half i n Start h = (omega arith, let z : n % 2 ≡ 0 = omega arith in rw z)
-rank_half i n Finish h = (omega arith, let z : n % 2 ≡ 1 = omega arith in rw z)
+rank_half i n s h = grind (arith, nat_tests)
 
 module _ (p : Plan) (kp : Keeps p) (counts : ℕ → ℕ) (fits : Fits p counts) (conf : Configuration p (held p counts)) where
   next_met : ℕ → Bool

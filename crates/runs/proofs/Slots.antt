@@ -1,26 +1,26 @@
 -- Slots tell the counts.
 use Rattle.std.proofs.Common.{◌≡◌, ℕ, zero, suc, ◌+◌, ◌-◌, ◌*◌, ◌<◌, ◌≤◌, Bool, true, false, cond, not, ◌&&◌, ◌||◌, eqb, ltb, leb, List, length, set, Some, None, Option, sym, refl, ap, ◌∙◌, subst, ⊎_elim, add-one, arith, length-set, get_or-set_other, get_or-set_same}
 use mathlib.Core.Path.{fun_ext}
-use Rattle.std.proofs.lemmas.Bool.{eqb-true, eqb-false, and_parts, and_from, both_ways, cases_Bool, cases_lt, cases_eq}
-use Rattle.std.proofs.lemmas.Bool.Decides.{nat_tests}
-use Rattle.std.proofs.lemmas.Option.{slice_get_past}
+use Rattle.std.proofs.lemmas.Bool.{eqb-true, eqb-false, and_parts, both_ways, cases_Bool, cases_lt, cases_eq}
+use Rattle.std.proofs.lemmas.Bool.Decides.{nat_tests, Decides-below_and}
+use Rattle.std.proofs.lemmas.Option.{slice_get_past, slice_get_within, same_Some, none-some, gets}
 use Rattle.std.specs.List.{slice_get}
-use Rattle.plans.specs.Ppo.{EventType}
+use Rattle.plans.specs.declared.ends.EventType.{EventType}
 use Rattle.plans.specs.declared.ends.Side.{Side}
 use Rattle.plans.specs.declared.ends.Side.TheVariants.{Start, Finish}
 use Rattle.plans.specs.Lists.{and_then}
 use Rattle.plans.specs.Plan.{Plan, Link, Keeps, words_of, word_at, place_of, next_word, task_count, link_count, gives}
-use Rattle.plans.specs.Orders.{from_type, to_type}
 use Rattle.runs.specs.Order.{same_type}
 use Rattle.runs.specs.declared.table.Slot.{Slot}
 use Rattle.runs.specs.Calls.{phase, shown}
 use Rattle.runs.specs.Slots.{rank, maybe, held, blank, slot_of, progress, SlotFits, TableFits, slot_count, counts, next_of, link_met_by, links_met_by, link_free_by, links_free_by, started, finished, undone}
 use Rattle.runs.proofs.Counting.{next_place, link_met, links_met, link_stands, links_free, one_more, one_less}
-use Rattle.runs.proofs.Tests.{same_bool, all_nth, nth_all, type_true}
-use Rattle.plans.proofs.Places.{nth_within}
-use Rattle.plans.proofs.Walking.{some_eq, word_known}
-use Rattle.runs.proofs.Places.{none_some, below_nth, place_word, word_place}
+use Rattle.runs.proofs.Tests.{same_bool, type_true, all_slice_get, all_from_slice_get}
+use Rattle.runs.proofs.Places.{place_word}
 use Rattle.runs.proofs.Tables.{entries_tell}
+use Rattle.plans.proofs.Places.{slice_get_some}
+use Rattle.plans.proofs.Predecessors.{word_place}
+use Rattle.std.proofs.lemmas.Grind.{common_steps}
 
 pub count_at : (p : Plan) (t i : ℕ) (s : Slot) → place_of p t s.word ≡ Some i → slot_count p t s ≡ 2 * i + progress s
 count_at p t i s h = ap (λ (o : Option ℕ). maybe o 0 (λ i. 2 * i + progress s)) h
@@ -42,12 +42,7 @@ counts_set p slots t r g n h = fun_ext (λ u. go u (eqb t u) refl)
     go u false q = ap (slot_count p u) (get_or-set_other slots t u r blank (λ e. eqb-false t u q (sym e)))
 
 small : (s : Slot) → progress s ≤ 2
-small s = go s.done s.running
-  where
-    go : (a b : Bool) → cond a 2 (cond b 1 0) ≤ 2
-    go true b = omega arith
-    go false true = omega arith
-    go false false = omega arith
+small s = grind arith
 
 -- the flags of a slot that is done, running or waiting
 pub data Flags (s : Slot) : Type 0 where
@@ -56,25 +51,14 @@ pub data Flags (s : Slot) : Type 0 where
   now_waiting : s.done ≡ false → s.running ≡ false → progress s ≡ 0 → Flags s
 
 pub flags : (s : Slot) → Flags s
-flags s = go s.done refl s.running refl
-  where
-    go : (a : Bool) → s.done ≡ a → (b : Bool) → s.running ≡ b → Flags s
-    go true d b r = now_done d (rw d)
-    go false d true r = now_running d r (rw (d, r))
-    go false d false r = now_waiting d r (rw (d, r))
+flags s = grind (arith, nat_tests)
 
 pub two_done : (s : Slot) → progress s ≡ 2 → s.done ≡ true
-two_done s h = go (flags s)
-  where
-    go : Flags s → s.done ≡ true
-    go (now_done d q) = d
-    go (now_running d r q) = absurd (omega arith)
-    go (now_waiting d r q) = absurd (omega arith)
+two_done s h = grind arith
 
 -- What holds of each number below n.
 pub all_below : (one all : ℕ → Bool) → (all 0 ≡ true) → ((l : ℕ) → all (suc l) ≡ (one l && all l)) → (n : ℕ) → ((l : ℕ) → l < n → one l ≡ true) → all n ≡ true
-all_below one all z more zero h = z
-all_below one all z more (suc n) h = more n ∙ and_from _ _ (h n (omega arith)) (all_below one all z more n (λ l k. h l (omega arith)))
+all_below one all z more n h = (Decides-below_and one (λ l. one l ≡ true) all (λ l. (λ e. e, λ e. e)) z more n).1 h
 
 pub each_below : (one all : ℕ → Bool) → ((l : ℕ) → all (suc l) ≡ (one l && all l)) → (n l : ℕ) → all n ≡ true → l < n → one l ≡ true
 each_below one all more zero l h k = absurd (omega arith)
@@ -87,15 +71,12 @@ by_numbers : (ks : List Link) (f : Link → Bool) (one all : ℕ → Bool) → (
     → ((l : ℕ) (k : Link) → slice_get ks l ≡ Some k → one l ≡ f k) → Rattle.runs.specs.Order.all f ks ≡ all (length ks)
 by_numbers ks f one all z more same =
     same_bool _ _
-    (λ h. all_below one all z more (length ks) (λ l k. let r = below_nth ks l k in same l r.0 r.1 ∙ all_nth f ks l r.0 h r.1))
-    (λ h. nth_all f ks (λ l k n. sym (same l k n) ∙ each_below one all more (length ks) l h (nth_within ks l k n)))
-
-not_ltb : (a b : ℕ) → leb b a ≡ not (ltb a b)
-not_ltb a b = grind (arith, nat_tests)
+    (λ h. all_below one all z more (length ks) (λ l k. let r = slice_get_some ks l k in same l r.0 r.1 ∙ all_slice_get f ks l r.0 h r.1))
+    (λ h. all_from_slice_get f ks (λ l k n. sym (same l k n) ∙ each_below one all more (length ks) l h (slice_get_within ks l k n)))
 
 module _ (p : Plan) (kp : Keeps p) where
   place_below : (t i w : ℕ) → place_of p t w ≡ Some i → i < length (words_of p t)
-  place_below t i w h = nth_within (words_of p t) i w (place_word p t i w h)
+  place_below t i w h = slice_get_within (words_of p t) i w (place_word p t i w h)
 
   pub slot_small : (t : ℕ) (s : Slot) → SlotFits p t s → slot_count p t s ≤ 2 * length (words_of p t)
   slot_small t s f =
@@ -105,11 +86,7 @@ module _ (p : Plan) (kp : Keeps p) where
       omega arith
 
   pub slot_unknown : (t : ℕ) (s : Slot) → task_count p ≤ t → slot_count p t s ≡ 0
-  slot_unknown t s h = go (place_of p t s.word) refl
-    where
-      go : (o : Option ℕ) → place_of p t s.word ≡ o → maybe o 0 (λ i. 2 * i + progress s) ≡ 0
-      go None q = refl
-      go (Some i) q = absurd (let k = word_known p t i s.word (place_word p t i s.word q) in omega arith)
+  slot_unknown t s h = grind (arith, common_steps, gets)
 
   -- the word of the next event of a type
   pub next_is : (t : ℕ) (d : Side) (s : Slot) → SlotFits p t s → word_at p t (next_place d (slot_count p t s)) ≡ next_of p t d s
@@ -139,11 +116,7 @@ module _ (p : Plan) (kp : Keeps p) where
 
   -- two readings of one number agree
   same_reading : (len a b f g : ℕ) → a < len → b < len → f ≤ 2 → g ≤ 2 → (f ≡ 2 → suc a ≡ len) → (g ≡ 2 → suc b ≡ len) → 2 * a + f ≡ 2 * b + g → (a ≡ b) × (f ≡ g)
-  same_reading len a b f g m n x y u v e =
-      ⊎_elim
-      (λ i. ⊎_elim (λ j. let q : a ≡ b = omega arith in (q, omega arith)) (λ j. let z = v (omega arith) in absurd (omega arith)) (cases_lt g 2))
-      (λ i. let w = u (omega arith) in ⊎_elim (λ j. absurd (omega arith)) (λ j. let q : a ≡ b = omega arith in (q, omega arith)) (cases_lt g 2))
-      (cases_lt f 2)
+  same_reading len a b f g m n x y u v e = grind (arith, nat_tests)
 
   module _ (slots : List Slot) (fits : TableFits p slots) where
     pub few : (t : ℕ) → counts p slots t ≤ 2 * length (words_of p t)
@@ -154,41 +127,41 @@ module _ (p : Plan) (kp : Keeps p) where
         (λ l. let z : counts p slots t ≡ 0 = slot_unknown t (slot_of slots t) l in omega arith)
         (cases_lt t (task_count p))
 
-    one_met : (a : EventType) (i l : ℕ) (k : Link) → slice_get p.links l ≡ Some k → link_met_by p slots a i l ≡ (not (same_type (to_type k.ends) a) || link_met p (counts p slots) i k)
+    one_met : (a : EventType) (i l : ℕ) (k : Link) → slice_get p.links l ≡ Some k → link_met_by p slots a i l ≡ (not (same_type k.ends.to a) || link_met p (counts p slots) i k)
     unfolding link_met counts
-    one_met a i l k n = rw n (go (same_type (to_type k.ends) a) refl)
+    one_met a i l k n = rw n (go (same_type k.ends.to a) refl)
       where
-        go : (b : Bool) → same_type (to_type k.ends) a ≡ b
-            → cond b (maybe (next_of p k.ends.from k.ends.from_side (slot_of slots k.ends.from)) true (λ v. maybe (gives p k v) true (λ w. maybe (place_of p a.task w) true (λ b. ltb i b)))) true
+        go : (b : Bool) → same_type k.ends.to a ≡ b
+            → cond b (maybe (next_of p k.ends.from.task k.ends.from.side (slot_of slots k.ends.from.task)) true (λ v. maybe (gives p k v) true (λ w. maybe (place_of p a.task w) true (λ b. ltb i b)))) true
             ≡ (not b || link_met p (counts p slots) i k)
         go false q = refl
         go true q =
-            ap (λ (x : EventType). maybe (next_of p k.ends.from k.ends.from_side (slot_of slots k.ends.from)) true (λ v. maybe (gives p k v) true (λ w. maybe (place_of p x.task w) true (λ b. ltb i b)))) (sym (type_true (to_type k.ends) a q))
-            ∙ ap (λ (o : Option ℕ). maybe o true (λ v. maybe (gives p k v) true (λ w. maybe (place_of p k.ends.to w) true (λ b. ltb i b))))
-            (sym (next_is k.ends.from k.ends.from_side (slot_of slots k.ends.from) (fits.slot k.ends.from (kp.links_keep l k n).from_known)))
+            ap (λ (x : EventType). maybe (next_of p k.ends.from.task k.ends.from.side (slot_of slots k.ends.from.task)) true (λ v. maybe (gives p k v) true (λ w. maybe (place_of p x.task w) true (λ b. ltb i b)))) (sym (type_true k.ends.to a q))
+            ∙ ap (λ (o : Option ℕ). maybe o true (λ v. maybe (gives p k v) true (λ w. maybe (place_of p k.ends.to.task w) true (λ b. ltb i b))))
+            (sym (next_is k.ends.from.task k.ends.from.side (slot_of slots k.ends.from.task) (fits.slot k.ends.from.task (kp.links_keep l k n).from_known)))
 
     pub all_met : (a : EventType) (i : ℕ) → links_met p (counts p slots) a i ≡ links_met_by p slots a i (link_count p)
     unfolding links_met
     all_met a i = by_numbers p.links _ (link_met_by p slots a i) (links_met_by p slots a i) refl (λ l. refl) (λ l k n. one_met a i l k n)
 
-    one_free : (a : EventType) (v l : ℕ) (k : Link) → slice_get p.links l ≡ Some k → link_free_by p slots a v l ≡ (not (same_type (from_type k.ends) a) || not (link_stands p (counts p slots) v k))
+    one_free : (a : EventType) (v l : ℕ) (k : Link) → slice_get p.links l ≡ Some k → link_free_by p slots a v l ≡ (not (same_type k.ends.from a) || not (link_stands p (counts p slots) v k))
     unfolding link_stands counts
-    one_free a v l k n = rw n (go (same_type (from_type k.ends) a))
+    one_free a v l k n = rw n (go (same_type k.ends.from a))
       where
         inner : (o : Option ℕ)
-            → maybe o true (λ b. leb (slot_count p k.ends.to (slot_of slots k.ends.to)) (rank b k.ends.to_side))
-            ≡ not (maybe o false (λ b. ltb (rank b k.ends.to_side) (slot_count p k.ends.to (slot_of slots k.ends.to))))
+            → maybe o true (λ b. leb (slot_count p k.ends.to.task (slot_of slots k.ends.to.task)) (rank b k.ends.to.side))
+            ≡ not (maybe o false (λ b. ltb (rank b k.ends.to.side) (slot_count p k.ends.to.task (slot_of slots k.ends.to.task))))
         inner None = refl
-        inner (Some b) = not_ltb (rank b k.ends.to_side) (slot_count p k.ends.to (slot_of slots k.ends.to))
+        inner (Some b) = grind (arith, nat_tests)
 
         outer : (o : Option ℕ)
-            → maybe o true (λ w. maybe (place_of p k.ends.to w) true (λ b. leb (slot_count p k.ends.to (slot_of slots k.ends.to)) (rank b k.ends.to_side)))
-            ≡ not (maybe o false (λ w. maybe (place_of p k.ends.to w) false (λ b. ltb (rank b k.ends.to_side) (slot_count p k.ends.to (slot_of slots k.ends.to)))))
+            → maybe o true (λ w. maybe (place_of p k.ends.to.task w) true (λ b. leb (slot_count p k.ends.to.task (slot_of slots k.ends.to.task)) (rank b k.ends.to.side)))
+            ≡ not (maybe o false (λ w. maybe (place_of p k.ends.to.task w) false (λ b. ltb (rank b k.ends.to.side) (slot_count p k.ends.to.task (slot_of slots k.ends.to.task)))))
         outer None = refl
-        outer (Some w) = inner (place_of p k.ends.to w)
+        outer (Some w) = inner (place_of p k.ends.to.task w)
 
         go : (b : Bool)
-            → cond b (maybe (gives p k v) true (λ w. maybe (place_of p k.ends.to w) true (λ b. leb (slot_count p k.ends.to (slot_of slots k.ends.to)) (rank b k.ends.to_side)))) true
+            → cond b (maybe (gives p k v) true (λ w. maybe (place_of p k.ends.to.task w) true (λ b. leb (slot_count p k.ends.to.task (slot_of slots k.ends.to.task)) (rank b k.ends.to.side)))) true
             ≡ (not b || not (link_stands p (counts p slots) v k))
         go false = refl
         go true = outer (gives p k v)
@@ -219,7 +192,7 @@ module _ (p : Plan) (kp : Keeps p) where
       reading =
           let e = entries_tell p kp (counts p slots) few t known in
           let r = same_reading (length (words_of p t)) e.at f.at _ (progress s) (place_below t e.at _ e.at_place) (place_below t f.at _ f.at_place) e.three (small s) e.done_last (λ q. f.last (two_done s q)) (sym e.stand ∙ is_at) in
-          (some_eq _ s.word (sym (place_word p t e.at _ e.at_place) ∙ ap (word_at p t) r.0 ∙ place_word p t f.at s.word f.at_place), r.1)
+          (same_Some _ s.word (sym (place_word p t e.at _ e.at_place) ∙ ap (word_at p t) r.0 ∙ place_word p t f.at s.word f.at_place), r.1)
 
       -- a slot put in its place
       put : (r : Slot) (g : ℕ → ℕ) (x : SlotFits p t r) → 2 * x.at + progress r ≡ g (2 * f.at + progress s)
@@ -248,7 +221,7 @@ module _ (p : Plan) (kp : Keeps p) where
           go : (o : Option ℕ) → next_word p t s.word ≡ o → SlotFits p t (finished s o) × (counts p (set slots t (finished s o)) ≡ one_more t (counts p slots))
           go None q =
               let b = place_below t f.at s.word f.at_place in
-              let e : suc f.at ≡ length (words_of p t) = ⊎_elim (λ l. let v = below_nth (words_of p t) (suc f.at) l in none_some v.0 (sym q ∙ next ∙ v.1)) (λ l. omega arith) (cases_lt (suc f.at) (length (words_of p t))) in
+              let e : suc f.at ≡ length (words_of p t) = ⊎_elim (λ l. let v = slice_get_some (words_of p t) (suc f.at) l in absurd (none-some v.0 (sym q ∙ next ∙ v.1))) (λ l. omega arith) (cases_lt (suc f.at) (length (words_of p t))) in
               let x : SlotFits p t (finished s None) = record { at = f.at; at_place = f.at_place; last = λ _. e; one_flag = λ _. refl } in
               (x, put (finished s None) suc x (omega (arith, run)))
           go (Some w) q =

@@ -1,7 +1,7 @@
 -- Lists of calls: what stands is a configuration, posts go by the order, every configuration is reached, and all ends are one.
-use Rattle.std.proofs.Common.{◌≡◌, suc, Bool, true, false, cond, not, ◌&&◌, ltb, List, [], ◌∷◌, ◌++◌, length, is_some, Some, None, Option, sym, refl, ap, ◌∙◌, subst}
+use Rattle.std.proofs.Common.{◌≡◌, suc, Bool, true, false, cond, not, ◌&&◌, ltb, List, [], ◌∷◌, ◌++◌, length, is_some, Some, None, Option, sym, refl, ap, ◌∙◌, subst, arith}
 use mathlib.Core.Path.{fun_ext}
-use Rattle.std.proofs.lemmas.Bool.{lt-ltb, both_ways, and_parts, and_from, not-true, not_from_false}
+use Rattle.std.proofs.lemmas.Bool.{both_ways, and_parts, and_from, not-true, not_from_false, false_from_ne_true}
 use Rattle.runs.specs.declared.refusal.Refusal.{Refusal}
 use Rattle.runs.specs.declared.refusal.Refusal.TheVariants.{NoTask, NoWord, Stands, Waits, Absent, RestedOn}
 use Rattle.plans.specs.declared.event.Event.{Event}
@@ -12,10 +12,13 @@ use Rattle.runs.specs.declared.calls.Call.{Call}
 use Rattle.runs.specs.declared.calls.Call.TheVariants.{Post, TakeBack, ReadyList, StateTable, Verdict}
 use Rattle.runs.specs.Calls.{accepted, nothing, with, without, post_check, take_back_check, unless, after, standing_from, standing, refused_or, reply, is_ready, ready}
 use Rattle.runs.specs.Laws.{Same, Ready, NothingReady, PostedByTheOrder}
-use Rattle.runs.proofs.Tests.{no_true, same_bool, among_any, kept_from, among_kept, nothing_among}
-use Rattle.plans.proofs.Walking.{word_known}
-use Rattle.runs.proofs.Places.{is_there, none_some, place_word, listed, of_plan}
+use Rattle.runs.proofs.Tests.{same_bool, among_any, kept_from, among_kept, nothing_among}
+use Rattle.runs.proofs.Places.{listed, of_plan}
 use Rattle.runs.proofs.Order.{rests_from, supported, supports, closed, secured_of_plan, removed, with_is, without_is, secured_removed, grows}
+use Rattle.std.proofs.lemmas.Option.{none-some, gets}
+use Rattle.plans.proofs.Places.{some_from_is_some}
+use Rattle.std.proofs.lemmas.Grind.{common_steps}
+use Rattle.std.proofs.lemmas.Bool.Decides.{nat_tests}
 
 -- Configurations.
 pub by_list : (p : Plan) (has : Event → Bool) (c : Configuration p has) → has ≡ among c.0
@@ -52,19 +55,17 @@ post_clear p has e h = go (ltb e.task (task_count p)) (is_some (place_of p e.tas
   where
     go : (a b : Bool) → is_some (place_of p e.task e.word) ≡ b → (c : Bool) → has e ≡ c → (d : Bool) → all has (rests_on p e) ≡ d
         → ◌≡◌ {A = Option Refusal} (cond (not a) (Some NoTask) (cond (not b) (Some NoWord) (cond c (Some Stands) (cond (not d) (Some Waits) None)))) None → Ready p has e
-    go false b eb c ec d ed h = none_some NoTask (sym h)
-    go true false eb c ec d ed h = none_some NoWord (sym h)
-    go true true eb true ec d ed h = none_some Stands (sym h)
-    go true true eb false ec false ed h = none_some Waits (sym h)
+    go false b eb c ec d ed h = absurd (none-some NoTask (sym h))
+    go true false eb c ec d ed h = absurd (none-some NoWord (sym h))
+    go true true eb true ec d ed h = absurd (none-some Stands (sym h))
+    go true true eb false ec false ed h = absurd (none-some Waits (sym h))
     go true true eb false ec true ed h =
-        let o = is_there _ eb in record { of_plan = o; waits = ec; supported = supported p has e o ed }
+        let o = some_from_is_some _ eb in record { of_plan = o; waits = ec; supported = supported p has e o ed }
 
 -- The check where the plan has the event and it is not standing.
 pub post_decides : (p : Plan) (has : Event → Bool) (e : Event) → OfPlan p e → has e ≡ false → post_check p has e ≡ cond (not (all has (rests_on p e))) (Some Waits) None
 unfolding post_check
-post_decides p has e o w =
-    let k = lt-ltb e.task (task_count p) (word_known p _ _ _ (place_word p e.task o.0 e.word o.1)) in
-    rw (k, o.1, w) refl
+post_decides p has e o w = grind (arith, common_steps, gets)
 
 pub post_ready : (p : Plan) (has : Event → Bool) (e : Event) → Ready p has e → post_check p has e ≡ None
 post_ready p has e r = post_decides p has e r.of_plan r.waits ∙ rw (supports p has e r.supported)
@@ -75,21 +76,15 @@ unfolding take_back_check
 take_back_clear p has conf e h d k r = go (ltb e.task (task_count p)) (is_some (place_of p e.task e.word)) (has e) (any (λ d. has d && rests p d e) (events p)) refl h
   where
     go : (a b c x : Bool) → any (λ d. has d && rests p d e) (events p) ≡ x → ◌≡◌ {A = Option Refusal} (cond (not a) (Some NoTask) (cond (not b) (Some NoWord) (cond (not c) (Some Absent) (cond x (Some RestedOn) None)))) None → ⊥
-    go false b c x q h = none_some NoTask (sym h)
-    go true false c x q h = none_some NoWord (sym h)
-    go true true false x q h = none_some Absent (sym h)
-    go true true true true q h = none_some RestedOn (sym h)
+    go false b c x q h = absurd (none-some NoTask (sym h))
+    go true false c x q h = absurd (none-some NoWord (sym h))
+    go true true false x q h = absurd (none-some Absent (sym h))
+    go true true true true q h = absurd (none-some RestedOn (sym h))
     go true true true false q h = both_ways _ q (among_any (λ d. has d && rests p d e) (events p) d (listed p d (conf_of_plan p has conf d k)) (and_from _ _ k (rests_from p d e r)))
 
 pub take_back_known : (p : Plan) (has : Event → Bool) (e : Event) → take_back_check p has e ≡ None → OfPlan p e × (has e ≡ true)
 unfolding take_back_check
-take_back_known p has e h = go (ltb e.task (task_count p)) (is_some (place_of p e.task e.word)) refl (has e) refl (any (λ d. has d && rests p d e) (events p)) h
-  where
-    go : (a b : Bool) → is_some (place_of p e.task e.word) ≡ b → (c : Bool) → has e ≡ c → (x : Bool) → ◌≡◌ {A = Option Refusal} (cond (not a) (Some NoTask) (cond (not b) (Some NoWord) (cond (not c) (Some Absent) (cond x (Some RestedOn) None)))) None → OfPlan p e × (has e ≡ true)
-    go false b eb c ec x h = none_some NoTask (sym h)
-    go true false eb c ec x h = none_some NoWord (sym h)
-    go true true eb false ec x h = none_some Absent (sym h)
-    go true true eb true ec x h = (is_there _ eb, ec)
+take_back_known p has e h = grind (arith, nat_tests)
 
 pub conf_after : (p : Plan) (has : Event → Bool) (c : Call) → Configuration p has → Configuration p (after p has c)
 unfolding after
@@ -125,8 +120,7 @@ always_a_configuration p cs = conf_from p nothing cs (conf_nothing p)
 
 -- what is accepted is not refused
 pub none_refused : (o : Option Refusal) → refused_or o accepted ≡ accepted → o ≡ None
-none_refused None h = refl
-none_refused (Some n) h = cc
+none_refused o h = grind (arith, nat_tests)
 
 pub posted_by_the_order : (p : Plan) (has : Event → Bool) (e : Event) → OfPlan p e → has e ≡ false → PostedByTheOrder p has e
 unfolding reply
@@ -134,7 +128,7 @@ posted_by_the_order p has e o w =
     record {
       accepts = λ s. rw (post_ready p has e (record { of_plan = o; waits = w; supported = s }));
       only = λ h. (post_clear p has e (none_refused (post_check p has e) h)).supported;
-      otherwise = λ n. rw (post_decides p has e o w, no_true _ (λ k. n (supported p has e o k)));
+      otherwise = λ n. rw (post_decides p has e o w, false_from_ne_true _ (λ k. n (supported p has e o k)));
     }
 
 -- Every configuration: post its events in their order.

@@ -1,12 +1,13 @@
 -- Accepted posts, one after another.
-use Rattle.std.proofs.Common.{◌≡◌, ℕ, suc, ◌+◌, ◌<◌, ◌≤◌, Bool, true, false, cond, List, is_ok, Some, None, Option, sym, refl, ap, ◌∙◌, subst, add-one, arith, below_more}
+use Rattle.std.proofs.Common.{◌≡◌, ℕ, suc, ◌+◌, ◌<◌, ◌≤◌, true, cond, List, is_ok, Some, None, Ok, Option, sym, refl, ◌∙◌, subst, add-one, arith, below_more}
 use Rattle.std.proofs.lemmas.Bool.{cond-true}
 use Rattle.plans.specs.declared.event.Event.{Event}
 use Rattle.plans.specs.Plan.{Plan}
-use Rattle.plans.proofs.Walking.{none_some}
 use Rattle.runs.specs.declared.table.Slot.{Slot}
-use Rattle.runs.specs.Slots.{maybe, slot_of, slot_event, entered, post_by, posted_by, ready_of}
-use Rattle.runs.specs.Play.{Plays, stay, step}
+use Rattle.runs.specs.declared.table.Table.{Table}
+use Rattle.runs.specs.Slots.{maybe, entered, post_by, posted_by, ready_of}
+use Rattle.runs.specs.Play.{Plays, stay, step, Stuck, Played}
+use Rattle.std.proofs.lemmas.Bool.Decides.{nat_tests}
 
 pub plays_then : {p : Plan} {xs : List Slot} {m : ℕ} {ys : List Slot} {n : ℕ} {zs : List Slot} {k : ℕ} → Plays p xs m ys n → Plays p ys n zs k → Plays p xs m zs k
 plays_then x stay = x
@@ -20,25 +21,17 @@ pub plays_same : {p : Plan} {ss : List Slot} {m : ℕ} {us : List Slot} {n : ℕ
 plays_same stay q = refl
 plays_same (step us n e y h) q = let k = plays_up y in absurd (omega arith)
 
--- The ready event of a task is one of its own, and is accepted.
-accepted : (p : Plan) (ss : List Slot) (e : Event) (b : Bool) (x : Event) → cond b (Some x) None ≡ Some e → (b ≡ true) × (x ≡ e)
-accepted p ss e true x q = (refl, cc)
-accepted p ss e false x q = absurd (none_some e q)
+-- the same under an equal plan and count
+pub plays_as : {p q : Plan} {ss : List Slot} {m : ℕ} {us : List Slot} {n k : ℕ} → p ≡ q → n ≡ k → Plays p ss m us n → Plays q ss m us k
+plays_as {p = p} {ss = ss} {m = m} {us = us} {k = k} e f x = subst (λ (y : Plan). Plays y ss m us k) e (subst (λ (i : ℕ). Plays p ss m us i) f x)
 
+-- The ready event of a task is one of its own, and is accepted.
 own : (p : Plan) (ss : List Slot) (t : ℕ) (e : Event) (o : Option Event) → ((x : Event) → o ≡ Some x → x.task ≡ t)
     → maybe o None (λ x. cond (is_ok (post_by p ss x)) (Some x) None) ≡ Some e → (e.task ≡ t) × (is_ok (post_by p ss e) ≡ true)
-own p ss t e None h q = absurd (none_some e q)
-own p ss t e (Some x) h q =
-    let r = accepted p ss e (is_ok (post_by p ss x)) x q in
-    (sym (ap (λ (y : Event). y.task) r.1) ∙ h x refl, subst (λ (y : Event). is_ok (post_by p ss y) ≡ true) r.1 r.0)
-
-event_task : (t : ℕ) (k : Slot) (b : Bool) (x y : Event) → y.task ≡ t → cond b None (Some y) ≡ Some x → x.task ≡ t
-event_task t k true x y h q = absurd (none_some x q)
-event_task t k false x y h q = let e : y ≡ x = cc in sym (ap (λ (z : Event). z.task) e) ∙ h
+own p ss t e o h q = grind (arith, nat_tests)
 
 pub ready_known : (p : Plan) (ss : List Slot) (t : ℕ) (e : Event) → Some e ≡ ready_of p ss t → (e.task ≡ t) × (is_ok (post_by p ss e) ≡ true)
-ready_known p ss t e q =
-    own p ss t e (slot_event t (slot_of ss t)) (λ x r. event_task t (slot_of ss t) (slot_of ss t).done x _ refl r) (sym q)
+ready_known p ss t e q = grind (arith, nat_tests)
 
 -- one event more
 pub plays_more : (p : Plan) (ss us vs : List Slot) (m n t : ℕ) (e : Event) → Plays p ss m us n → Some e ≡ ready_of p us t
@@ -48,8 +41,13 @@ plays_more p ss us vs m n t e x r is =
     let same : posted_by p us e ≡ vs = cond-true (is_ok (post_by p us e)) _ us ok ∙ sym is in
     rw add-one (subst (λ (w : List Slot). Plays p ss m w (suc n)) same (step us n e x ok))
 
-pub plays_over : (p : Plan) (ss us : List Slot) (m n t : ℕ) (e : Event) → Plays p ss m us n → Some e ≡ ready_of p us t → (vs : List Slot) × Plays p ss m vs (suc n)
-plays_over p ss us m n t e x r = (posted_by p us e, step us n e x (ready_known p us t e r).1)
+pub plays_over : (p : Plan) (ss us : List Slot) (m n budget t : ℕ) (e : Event) → Plays p ss m us n → Some e ≡ ready_of p us t → n ≡ budget → (vs : List Slot) × Plays p ss m vs (suc budget)
+plays_over p ss us m n budget t e x r q = (posted_by p us e, subst (λ (k : ℕ). Plays p ss m (posted_by p us e) (suc k)) q (step us n e x (ready_known p us t e r).1))
+
+-- a whole play, told of the table that it leaves
+pub played_in : {p : Plan} {ss : List Slot} {budget n : ℕ} (left us : Table) → left ≡ us → Plays p ss 0 us.slots n → n ≤ budget → Stuck p us.slots
+    → Played p ss 0 budget left.slots (Ok n) (λ _. Stuck p left.slots)
+played_in {p = p} {ss = ss} {n = n} left us e x h stuck = (subst (λ (t : Table). Plays p ss 0 t.slots n) (sym e) x, h, subst (λ (t : Table). Stuck p t.slots) (sym e) stuck)
 
 -- one task more of a pass
 pub swept_more : (p : Plan) (ss us vs : List Slot) (m n k t : ℕ) → Plays p ss m us n → Plays p us n vs k → ready_of p vs t ≡ None

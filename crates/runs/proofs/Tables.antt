@@ -1,7 +1,8 @@
 -- State tables tell which events stand.
-use Rattle.std.proofs.Common.{◌≡◌, ℕ, zero, suc, ◌+◌, ◌-◌, ◌*◌, ◌/◌, ◌%◌, ◌^◌, ◌<◌, ◌≤◌, Bool, true, false, ltb, ◌⊎◌, List, [], ◌∷◌, ◌++◌, length, get_or, Some, sym, refl, ap, ◌∙◌, subst, inl, inr, ⊎_elim, arith}
+use Rattle.std.proofs.Common.{◌≡◌, ℕ, zero, suc, ◌+◌, ◌-◌, ◌*◌, ◌/◌, ◌%◌, ◌^◌, ◌<◌, ◌≤◌, Bool, true, false, ltb, List, [], ◌∷◌, ◌++◌, length, get_or, Some, sym, refl, ap, ◌∙◌, subst, ⊎_elim, arith}
+use Rattle.std.proofs.lemmas.Option.{slice_get_within, same_Some, none-some}
 use mathlib.Core.Path.{fun_ext}
-use Rattle.std.proofs.lemmas.Bool.{ltb-true, ltb-false, lt-ltb, le-ltb, cases_lt, and_parts, and_from, both_ways, not-true, not_from_true, not_from_false}
+use Rattle.std.proofs.lemmas.Bool.{ltb-true, ltb-false, lt-ltb, le-ltb, cases_lt, and_parts, and_from, both_ways, not-true, not_from_true, not_from_false, false_from_ne_true}
 use Rattle.std.specs.List.{slice_get}
 use Rattle.plans.specs.declared.event.Event.{Event}
 use Rattle.plans.specs.declared.ends.Side.{Side}
@@ -13,24 +14,25 @@ use Rattle.runs.specs.Calls.{bytes, first, last, runs_at, waits_at, is_done, is_
 use Rattle.runs.specs.Laws.{Same}
 use Rattle.runs.specs.Slots.{rank, held}
 use Rattle.runs.proofs.Counting.{Fits, EntryTells, EntriesTell}
-use Rattle.runs.proofs.Tests.{no_true, same_bool, any_at, any_from, all_among, among_all}
-use Rattle.plans.proofs.Places.{nth_within}
-use Rattle.plans.proofs.Walking.{some_eq, word_known}
-use Rattle.runs.proofs.Places.{none_some, below_nth, place_word, word_place, chain_among, among_chain}
+use Rattle.runs.proofs.Tests.{same_bool, any_at, any_from, all_among, among_all}
+use Rattle.plans.proofs.Walking.{word_known}
+use Rattle.runs.proofs.Places.{place_word, chain_among, among_chain}
 use Rattle.runs.proofs.Counts.{front, held_told, bit_small}
 use Rattle.runs.proofs.ByCounts.{held_at, held_place}
 use Rattle.runs.proofs.Stands.{always_a_configuration}
+use Rattle.plans.proofs.Places.{slice_get_some}
+use Rattle.plans.proofs.Predecessors.{word_place}
 
 first_is : (f : ℕ → Bool) (ws : List ℕ) (i w d : ℕ) → slice_get ws i ≡ Some w → f w ≡ true → ((j v : ℕ) → j < i → slice_get ws j ≡ Some v → f v ≡ false) → first f ws d ≡ w
-first_is f [] i w d h k n = none_some w h
-first_is f (v ∷ vs) zero w d h k n = let z = some_eq v w h in rw (z, k)
+first_is f [] i w d h k n = absurd (none-some w h)
+first_is f (v ∷ vs) zero w d h k n = let z = same_Some v w h in rw (z, k)
 first_is f (v ∷ vs) (suc i) w d h k n = rw (n 0 v (omega arith) refl) (first_is f vs i w d h k (λ j u l e. n (suc j) u (omega arith) e))
 
 last_is : (ws : List ℕ) (i w d : ℕ) → slice_get ws i ≡ Some w → suc i ≡ length ws → last ws d ≡ w
-last_is [] i w d h k = none_some w h
-last_is (v ∷ []) zero w d h k = some_eq v w h
+last_is [] i w d h k = absurd (none-some w h)
+last_is (v ∷ []) zero w d h k = same_Some v w h
 last_is (v ∷ u ∷ us) zero w d h k = absurd (omega arith)
-last_is (v ∷ []) (suc i) w d h k = none_some w h
+last_is (v ∷ []) (suc i) w d h k = absurd (none-some w h)
 last_is (v ∷ u ∷ us) (suc i) w d h k = last_is (u ∷ us) i w v h (omega arith)
 
 -- The phase and the word of a task of which n events stand.
@@ -39,13 +41,13 @@ module _ (has : Event → Bool) (t n : ℕ) (ws : List ℕ) (told : (i w : ℕ) 
   unfolding is_done
   whole_done h = among_all has (chain t ws) (λ d k.
       let r = among_chain t ws d k in
-      let b = nth_within ws r.1 d.word r.2 in
+      let b = slice_get_within ws r.1 d.word r.2 in
       let f = bit_small d.side in
       subst (λ (x : ℕ). has (event x d.side d.word) ≡ true) (sym r.0) (told r.1 d.word d.side r.2 ∙ lt-ltb _ _ (omega arith)))
 
   not_done : (i w : ℕ) → slice_get ws i ≡ Some w → n ≤ rank i Finish → is_done has t ws ≡ false
   unfolding is_done
-  not_done i w h l = no_true _ (λ k. both_ways _ (told i w Finish h ∙ le-ltb _ _ l) (all_among has (chain t ws) (event t Finish w) k (chain_among t ws i w Finish h)))
+  not_done i w h l = false_from_ne_true _ (λ k. both_ways _ (told i w Finish h ∙ le-ltb _ _ l) (all_among has (chain t ws) (event t Finish w) k (chain_among t ws i w Finish h)))
 
   runs_here : (i w : ℕ) → slice_get ws i ≡ Some w → n ≡ rank i Finish → runs_at has t w ≡ true
   runs_here i w h l = and_from _ _ (told i w Start h ∙ lt-ltb _ _ (omega arith)) (not_from_false _ (told i w Finish h ∙ le-ltb _ _ (omega arith)))
@@ -63,7 +65,7 @@ module _ (has : Event → Bool) (t n : ℕ) (ws : List ℕ) (told : (i w : ℕ) 
 
   not_running : (i : ℕ) → n ≡ rank i Start → is_running has t ws ≡ false
   unfolding is_running
-  not_running i l = no_true _ (λ k. let r = any_from (runs_at has t) ws k in let q = runs_only r.0 r.1 r.2 r.3 in absurd (omega arith))
+  not_running i l = false_from_ne_true _ (λ k. let r = any_from (runs_at has t) ws k in let q = runs_only r.0 r.1 r.2 r.3 in absurd (omega arith))
 
   waiting_entry : (i w : ℕ) → slice_get ws i ≡ Some w → n ≡ rank i Start → (phase has t ws ≡ 0) × (shown has t ws ≡ w)
   unfolding phase shown
@@ -81,15 +83,12 @@ module _ (has : Event → Bool) (t n : ℕ) (ws : List ℕ) (told : (i w : ℕ) 
       let a = not_done i w h (omega arith) in
       let b = running i w h l in (
         rw (a, b),
-        rw (a, b) (first_is (runs_at has t) ws i w 0 h (runs_here i w h l) (λ j v m e. no_true _ (λ k. let q = runs_only j v e k in absurd (omega arith)))),
+        rw (a, b) (first_is (runs_at has t) ws i w 0 h (runs_here i w h l) (λ j v m e. false_from_ne_true _ (λ k. let q = runs_only j v e k in absurd (omega arith)))),
       )
 
   done_entry : (i w : ℕ) → slice_get ws i ≡ Some w → suc i ≡ length ws → 2 * length ws ≤ n → (phase has t ws ≡ 2) × (shown has t ws ≡ w)
   unfolding phase shown
   done_entry i w h k l = let a = whole_done l in (rw a, rw a (last_is ws i w 0 h k))
-
-half : (n : ℕ) → (n ≡ 2 * (n / 2)) ⊎ (n ≡ suc (2 * (n / 2)))
-half n = ⊎_elim (λ a. inl (omega arith)) (λ a. inr (omega arith)) (cases_lt (n % 2) 1)
 
 pub entries_tell : EntriesTell
 entries_tell p kp counts fits t h = ⊎_elim inside whole (cases_lt (counts t) (2 * length (words_of p t)))
@@ -111,18 +110,18 @@ entries_tell p kp counts fits t h = ⊎_elim inside whole (cases_lt (counts t) (
     inside : counts t < 2 * length (words_of p t) → EntryTells p counts t
     inside l =
         let i = counts t / 2 in
-        let v = below_nth (words_of p t) i (omega arith) in
+        let v = slice_get_some (words_of p t) i (omega arith) in
         ⊎_elim
         (λ e. tells i v.0 0 v.1 (omega arith) (λ q. absurd (omega arith)) (omega arith) (waiting_entry (held p counts) t (counts t) (words_of p t) told i v.0 v.1 (omega arith)))
         (λ e. tells i v.0 1 v.1 (omega arith) (λ q. absurd (omega arith)) (omega arith) (running_entry (held p counts) t (counts t) (words_of p t) told i v.0 v.1 (omega arith)))
-        (half (counts t))
+        (cases_lt (counts t % 2) 1)
 
     whole : 2 * length (words_of p t) ≤ counts t → EntryTells p counts t
     whole l =
         let b = fits t in
         let m = kp.some_words t h in
         let i = length (words_of p t) - 1 in
-        let v = below_nth (words_of p t) i (omega arith) in
+        let v = slice_get_some (words_of p t) i (omega arith) in
         tells i v.0 2 v.1 (omega arith) (λ q. omega arith) (omega arith) (done_entry (held p counts) t (counts t) (words_of p t) told i v.0 v.1 (omega arith) l)
 
 -- Tables with equal bytes have equal entries.
@@ -154,7 +153,7 @@ same_counts p kp c d m n h t l =
     let z : 0 + t ≡ t = omega arith in
     let a : phase (held p c) t (words_of p t) ≡ phase (held p d) t (words_of p t) = rw z at q.0 in
     let b : shown (held p c) t (words_of p t) ≡ shown (held p d) t (words_of p t) = rw z at q.1 in
-    let g = some_eq e.at f.at (sym e.at_place ∙ ap (place_of p t) b ∙ f.at_place) in
+    let g = same_Some e.at f.at (sym e.at_place ∙ ap (place_of p t) b ∙ f.at_place) in
     let x = e.stand in
     let y = f.stand in
     omega arith

@@ -1,69 +1,39 @@
 -- What the tests on events and lists of events say.
-use Rattle.std.proofs.Common.{◌≡◌, ℕ, zero, suc, Bool, true, false, cond, not, ◌&&◌, ◌||◌, eqb, ◌⊎◌, List, [], ◌∷◌, ◌++◌, Some, None, Option, sym, refl, ap, subst, inl, inr, ⊎_elim, arith}
-use Rattle.std.proofs.lemmas.Bool.{eqb-true, eq-eqb, and_parts, and_from, or_cases, or_left, or_right, both_ways}
+use Rattle.std.proofs.Common.{◌≡◌, ℕ, zero, suc, Bool, true, false, cond, not, ◌||◌, ◌⊎◌, List, [], ◌∷◌, ◌++◌, Some, Option, sym, refl, subst, inl, inr, ⊎_elim, arith}
+use Rattle.std.proofs.lemmas.Bool.{eq-eqb, and_parts, and_from, or_cases, or_left, or_right, both_ways}
 use Rattle.plans.specs.declared.event.Event.{Event}
-use Rattle.plans.specs.Ppo.{EventType}
+use Rattle.plans.specs.declared.ends.EventType.{EventType}
 use Rattle.plans.specs.declared.ends.Side.{Side}
-use Rattle.plans.specs.declared.ends.Side.TheVariants.{Start, Finish}
 use Rattle.std.specs.List.{slice_get}
 use Rattle.plans.specs.Record.{same_side}
 use Rattle.plans.specs.Events.{same_event, among}
 use Rattle.runs.specs.Order.{any, all, kept, same_type, same_word}
-
-pub no_true : (b : Bool) → (b ≡ true → ⊥) → b ≡ false
-no_true true h = absurd (h refl)
-no_true false h = refl
+use Rattle.plans.proofs.Held.{side_same}
+use Rattle.std.proofs.lemmas.Bool.Decides.{nat_tests}
 
 -- equal where each is true when the other is
 pub same_bool : (a b : Bool) → (a ≡ true → b ≡ true) → (b ≡ true → a ≡ true) → a ≡ b
-same_bool true true f g = refl
-same_bool true false f g = sym (f refl)
-same_bool false true f g = g refl
-same_bool false false f g = refl
-
-pub side_true : (a b : Side) → same_side a b ≡ true → a ≡ b
-side_true Start Start h = refl
-side_true Start Finish h = absurd (both_ways false refl h)
-side_true Finish Start h = absurd (both_ways false refl h)
-side_true Finish Finish h = refl
-
-pub side_same : (a : Side) → same_side a a ≡ true
-side_same Start = refl
-side_same Finish = refl
+same_bool a b f g = grind arith
 
 pub type_true : (a b : EventType) → same_type a b ≡ true → a ≡ b
-type_true a b h =
-    let k = and_parts _ _ h in
-    let t = eqb-true a.task b.task k.0 in
-    let s = side_true a.side b.side k.1 in
-    λ i. record { task = t i; side = s i }
+type_true a b h = grind (arith, nat_tests)
 
 pub type_same : (a : EventType) → same_type a a ≡ true
 type_same a = and_from _ _ (eq-eqb a.task a.task refl) (side_same a.side)
 
 pub event_true : (a b : Event) → same_event a b ≡ true → a ≡ b
-event_true a b h =
-    let k = and_parts (eqb a.task b.task) (same_side a.side b.side && eqb a.word b.word) h in
-    let l = and_parts (same_side a.side b.side) (eqb a.word b.word) k.1 in
-    let t = eqb-true a.task b.task k.0 in
-    let s = side_true a.side b.side l.0 in
-    let w = eqb-true a.word b.word l.1 in
-    λ i. record { task = t i; side = s i; word = w i }
+event_true a b h = grind (arith, nat_tests)
 
 pub event_same : (a : Event) → same_event a a ≡ true
 event_same a = and_from _ _ (eq-eqb a.task a.task refl) (and_from _ _ (side_same a.side) (eq-eqb a.word a.word refl))
 
 pub word_true : (a b : Option ℕ) → same_word a b ≡ true → a ≡ b
 unfolding same_word
-word_true None None h = refl
-word_true None (Some w) h = absurd (both_ways false refl h)
-word_true (Some v) None h = absurd (both_ways false refl h)
-word_true (Some v) (Some w) h = ap Some (eqb-true v w h)
+word_true a b h = grind (arith, nat_tests)
 
 pub word_same : (a : Option ℕ) → same_word a a ≡ true
 unfolding same_word
-word_same None = refl
-word_same (Some v) = eq-eqb v v refl
+word_same a = grind (arith, nat_tests)
 
 pub side_eq : (a b : Side) → a ≡ b → same_side a b ≡ true
 side_eq a b e = rw e (side_same b)
@@ -76,7 +46,7 @@ word_eq a b e = rw e (word_same b)
 
 -- Any test at a place of a list.
 pub any_at : {A : Type 0} (f : A → Bool) (xs : List A) (i : ℕ) (x : A) → slice_get xs i ≡ Some x → f x ≡ true → any f xs ≡ true
-any_at f [] i x e h = let z : ◌≡◌ {A = ℕ} 0 1 = cc in absurd (omega arith)
+any_at f [] i x e h = cc
 any_at f (y ∷ ys) zero x e h = let k : y ≡ x = cc in or_left (f y) (any f ys) (rw k h)
 any_at f (y ∷ ys) (suc i) x e h = or_right (f y) (any f ys) (any_at f ys i x e h)
 
@@ -85,23 +55,24 @@ any_from f [] h = absurd (both_ways false refl h)
 any_from f (y ∷ ys) h =
     ⊎_elim (λ k. (0, y, refl, k)) (λ k. let r = any_from f ys k in (suc r.0, r.1, r.2, r.3)) (or_cases (f y) (any f ys) h)
 
-pub all_nth : {A : Type 0} (f : A → Bool) (xs : List A) (i : ℕ) (x : A) → all f xs ≡ true → slice_get xs i ≡ Some x → f x ≡ true
-all_nth f [] i x h e = let z : ◌≡◌ {A = ℕ} 0 1 = cc in absurd (omega arith)
-all_nth f (y ∷ ys) zero x h e = let k : y ≡ x = cc in rw (← k) (and_parts (f y) (all f ys) h).0
-all_nth f (y ∷ ys) (suc i) x h e = all_nth f ys i x (and_parts (f y) (all f ys) h).1 e
+pub all_slice_get : {A : Type 0} (f : A → Bool) (xs : List A) (i : ℕ) (x : A) → all f xs ≡ true → slice_get xs i ≡ Some x → f x ≡ true
+all_slice_get f [] i x h e = cc
+all_slice_get f (y ∷ ys) zero x h e = let k : y ≡ x = cc in rw (← k) (and_parts (f y) (all f ys) h).0
+all_slice_get f (y ∷ ys) (suc i) x h e = all_slice_get f ys i x (and_parts (f y) (all f ys) h).1 e
 
-pub nth_all : {A : Type 0} (f : A → Bool) (xs : List A) → ((i : ℕ) (x : A) → slice_get xs i ≡ Some x → f x ≡ true) → all f xs ≡ true
-nth_all f [] h = refl
-nth_all f (y ∷ ys) h = and_from (f y) (all f ys) (h 0 y refl) (nth_all f ys (λ i x e. h (suc i) x e))
+pub all_from_slice_get : {A : Type 0} (f : A → Bool) (xs : List A) → ((i : ℕ) (x : A) → slice_get xs i ≡ Some x → f x ≡ true) → all f xs ≡ true
+all_from_slice_get f [] h = refl
+all_from_slice_get f (y ∷ ys) h = and_from (f y) (all f ys) (h 0 y refl) (all_from_slice_get f ys (λ i x e. h (suc i) x e))
 
 -- a test under a condition
 pub given : (a b : Bool) → not a || b ≡ true → a ≡ true → b ≡ true
-given true b h k = h
-given false b h k = absurd (both_ways false refl k)
+given a b h k = grind arith
 
 pub under : (a b : Bool) → (a ≡ true → b ≡ true) → not a || b ≡ true
-under true b h = h refl
-under false b h = refl
+under a b h = grind arith
+
+pub cond_same : {A : Type 0} (b : Bool) (x y z : A) → (b ≡ true → x ≡ y) → cond b x z ≡ cond b y z
+cond_same b x y z h = grind arith
 
 -- Events of a list.
 pub among_here : (e : Event) (es : List Event) → among (e ∷ es) e ≡ true
@@ -153,9 +124,6 @@ among_kept f (e ∷ es) d h k = go (λ s. among_kept f es d s k) (f e) refl
     go : (among es d ≡ true → among (kept f es) d ≡ true) → (b : Bool) → f e ≡ b → among (cond b (e ∷ kept f es) (kept f es)) d ≡ true
     go ih true q = ⊎_elim (λ s. subst (λ (x : Event). among (e ∷ kept f es) x ≡ true) (sym s) (among_here e (kept f es))) (λ s. among_there e d (kept f es) (ih s)) (among_cases e d es h)
     go ih false q = ⊎_elim (λ s. absurd (both_ways (f e) q (subst (λ (x : Event). f x ≡ true) s k))) ih (among_cases e d es h)
-
-pub kept_none : (f : Event → Bool) (es : List Event) (d : Event) → kept f es ≡ [] → among es d ≡ true → f d ≡ true → ⊥
-kept_none f es d n h k = nothing_among d (subst (λ (xs : List Event). among xs d ≡ true) n (among_kept f es d h k))
 
 pub among_append_left : (es fs : List Event) (d : Event) → among es d ≡ true → among (es ++ fs) d ≡ true
 among_append_left [] fs d h = absurd (nothing_among d h)

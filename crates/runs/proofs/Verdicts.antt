@@ -1,6 +1,5 @@
 -- What playing in the slots tells of the verdict.
-use Rattle.std.proofs.Common.{◌≡◌, ℕ, zero, suc, ◌+◌, ◌<◌, ◌≤◌, Bool, true, false, cond, List, [], ◌∷◌, ◌++◌, length, is_ok, Some, None, Option, sym, refl, ap, ◌∙◌, subst, arith, length-append}
-use Rattle.std.proofs.lemmas.Bool.{both_ways}
+use Rattle.std.proofs.Common.{◌≡◌, ℕ, zero, suc, ◌+◌, ◌<◌, ◌≤◌, Bool, true, cond, List, [], ◌∷◌, ◌++◌, length, is_ok, Some, None, Option, sym, refl, ap, ◌∙◌, subst, arith, length-append}
 use Rattle.plans.specs.declared.event.Event.{Event}
 use Rattle.plans.specs.Plan.{Plan, Keeps, words_of, task_count}
 use Rattle.plans.specs.Events.{Configuration}
@@ -16,12 +15,14 @@ use Rattle.runs.specs.Play.{Plays, stay, step, Stuck, all_done}
 use Rattle.runs.specs.Shows.{Shows, Answers}
 use Rattle.runs.proofs.Tests.{same_bool, all_among, among_all}
 use Rattle.plans.proofs.Walking.{word_known}
-use Rattle.runs.proofs.Places.{place_word, chain_among, among_chain, listed, of_plan, word_place}
+use Rattle.runs.proofs.Places.{place_word, chain_among, among_chain, listed, of_plan}
 use Rattle.runs.proofs.Stands.{post_clear, none_ready}
 use Rattle.runs.proofs.Ways.{steps_conf, steps_snoc, posted_snoc, steps_append, posted_append, remaining_way, verdict_of}
 use Rattle.runs.proofs.Slots.{two_done, reading, all_below, each_below}
 use Rattle.runs.proofs.Answered.{checked, post_same, entered_shows, shown_conf}
 use Rattle.runs.proofs.Looks.{ready_is, looked, verdict_left}
+use Rattle.plans.proofs.Predecessors.{word_place}
+use Rattle.std.proofs.lemmas.Bool.Decides.{nat_tests}
 
 -- Accepted posts in the slots are steps of the order.
 pub record Stepped (p : Plan) (ss : List Slot) (m : ℕ) (us : List Slot) (n : ℕ) : Type 0 where
@@ -31,8 +32,7 @@ pub record Stepped (p : Plan) (ss : List Slot) (m : ℕ) (us : List Slot) (n : �
   pub long : m + length way ≡ n
 
 ok_none : (o : Option Refusal) → is_ok (checked o) ≡ true → o ≡ None
-ok_none None h = refl
-ok_none (Some x) h = absurd (both_ways false refl h)
+ok_none o h = grind (arith, nat_tests)
 
 module _ (p : Plan) (kp : Keeps p) where
   steps_shown : (has : Event → Bool) (us : List Slot) → Configuration p has → Shows p us has → Configuration p (held p (counts p us))
@@ -66,9 +66,7 @@ module _ (p : Plan) (kp : Keeps p) where
     stuck_ends conf h = none_ready p (held p (counts p us)) (sym (ready_is p kp us fits conf) ∙ nothing_gathered (ready_of p us) (task_count p) h)
 
     phase_two : (x y : Bool) → ◌≡◌ {A = ℕ} (cond x 2 (cond y 1 0)) 2 → x ≡ true
-    phase_two true y h = refl
-    phase_two false true h = absurd (omega arith)
-    phase_two false false h = absurd (omega arith)
+    phase_two x y h = grind arith
 
     done_all : (t : ℕ) → t < task_count p → (slot_of us t).done ≡ true → is_done (held p (counts p us)) t (words_of p t) ≡ true
     unfolding phase
@@ -104,8 +102,8 @@ module _ (p : Plan) (kp : Keeps p) where
         let conf = shown_conf p ss cs s in
         sym ((verdict_of p (held p (counts p ss)) conf _ (remaining_way p (held p (counts p ss)) conf) budget).no_tasks h))
 
-    pub over_budget : 1 ≤ task_count p → (vs : List Slot) → Plays p ss 0 vs (suc budget) → Answers p ss (Verdict budget) (refused OverBudget) ss
-    over_budget h vs y = looked p ss (Verdict budget) (refused OverBudget) (verdict_left p budget) (λ cs s.
+    pub over_budget : 1 ≤ task_count p → (vs : List Slot) (most : ℕ) → most ≡ budget → Plays p ss 0 vs (suc most) → Answers p ss (Verdict budget) (refused OverBudget) ss
+    over_budget h vs most same y = looked p ss (Verdict budget) (refused OverBudget) (verdict_left p budget) (λ cs s.
         let has = held p (counts p ss) in
         let conf = shown_conf p ss cs s in
         let b = stepped ss s.fit conf y in

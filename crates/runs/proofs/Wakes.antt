@@ -1,47 +1,30 @@
 -- Which tasks are to be looked at once events of a task were posted.
-use Rattle.std.proofs.Common.{◌≡◌, ℕ, zero, suc, ◌+◌, ◌-◌, ◌*◌, ◌/◌, ◌%◌, ◌^◌, ◌<◌, ◌≤◌, Bool, true, false, cond, ◌&&◌, eqb, ltb, ◌⊎◌, List, get_or, is_ok, Some, None, Ok, Err, Option, Result, sym, refl, ap, ◌∙◌, ⊎_elim, arith}
-use lib.Bits.{bit_or, bit_xor}
-use Rattle.std.proofs.lemmas.Bool.{eqb-true, cases_eq, cases_lt}
-use Rattle.std.proofs.lemmas.Nat.{pow_pos, pow-add, pow_below, div_below, shl-shr, or_shr, or_mod, xor_shr, xor_mod}
+use Rattle.std.proofs.Common.{◌≡◌, ℕ, zero, suc, ◌<◌, ◌≤◌, Bool, true, false, cond, not, ◌&&◌, ◌||◌, eqb, ltb, List, is_ok, Some, None, Ok, Err, Option, Result, sym, refl, ap, ◌∙◌, subst, ⊎_elim, arith}
+use Rattle.std.proofs.lemmas.Bool.{ne_eqb, cases_eq, both_ways}
 use Rattle.plans.specs.declared.ends.Ends.{Ends}
 use Rattle.plans.specs.declared.ends.Side.{Side}
 use Rattle.plans.specs.declared.ends.Side.TheVariants.{Start, Finish}
-use Rattle.plans.specs.Ppo.{EventType}
-use Rattle.plans.specs.Plan.{Plan, Keeps, task_count, place_of, link_ends, link_count, target}
-use Rattle.plans.specs.Orders.{to_type}
-use Rattle.runs.specs.Order.{event, event_type, same_type}
+use Rattle.plans.specs.declared.ends.EventType.{EventType}
+use Rattle.plans.specs.Plan.{Plan, Keeps, task_count, place_of, link_ends, link_count}
+use Rattle.runs.specs.Order.{event, event_type}
 use Rattle.runs.specs.declared.refusal.Refusal.{Refusal}
 use Rattle.runs.specs.declared.refusal.Refusal.TheVariants.{NoTask, NoWord, Stands, Waits}
+use Rattle.runs.specs.declared.routes.Routes.{Routes}
 use Rattle.runs.specs.declared.table.Slot.{Slot}
-use Rattle.runs.specs.Slots.{maybe, rank, next_of, slot_of, slot_event, slot_count, link_met_by, links_met_by, post_by, ready_of}
-use Rattle.runs.specs.Routes.{bit_of, Routed, Rested}
-use Rattle.runs.proofs.Tests.{type_true}
-use Rattle.runs.proofs.Slots.{each_below}
-
-cond_same : (b x y : Bool) → (b ≡ true → x ≡ y) → cond b x true ≡ cond b y true
-cond_same true x y h = h refl
-cond_same false x y h = refl
+use Rattle.runs.specs.declared.task_set.TaskSet.{TaskSet}
+use Rattle.runs.specs.Slots.{maybe, rank, slot_of, slot_event, slot_count, link_met_by, links_met_by, post_by, ready_of}
+use Rattle.runs.specs.TaskSets.{has}
+use Rattle.runs.specs.Routes.{links_at, Routed, Rested}
+use Rattle.std.proofs.lemmas.Bool.Decides.{nat_tests}
 
 maybe_same : {A B : Type 0} (o : Option A) (b : B) (f g : A → B) → ((a : A) → f a ≡ g a) → maybe o b f ≡ maybe o b g
-maybe_same None b f g h = refl
-maybe_same (Some a) b f g h = h a
+maybe_same o b f g h = grind (arith, nat_tests)
 
 -- What a task has ready hangs on its own slot and on those that links to it come from.
 module _ (p : Plan) (ss us : List Slot) (t : ℕ) (own : slot_of us t ≡ slot_of ss t)
-    (froms : (l : ℕ) (x : Ends) → l < link_count p → Some x ≡ link_ends p l → x.to ≡ t → slot_of us x.from ≡ slot_of ss x.from) where
+    (froms : (l : ℕ) (x : Ends) → l < link_count p → Some x ≡ link_ends p l → x.to.task ≡ t → slot_of us x.from.task ≡ slot_of ss x.from.task) where
   met_same : (a : EventType) → a.task ≡ t → (i l : ℕ) → l < link_count p → link_met_by p us a i l ≡ link_met_by p ss a i l
-  met_same a of i l h = go (link_ends p l) refl
-    where
-      met : List Slot → Ends → Bool
-      met ws e = cond (same_type (to_type e) a)
-          (maybe (next_of p e.from e.from_side (slot_of ws e.from)) true
-          (λ v. maybe (target p l v) true (λ w. maybe (place_of p a.task w) true (λ b. ltb i b)))) true
-
-      go : (o : Option Ends) → o ≡ link_ends p l → maybe o true (met us) ≡ maybe o true (met ss)
-      go None q = refl
-      go (Some x) q = cond_same (same_type (to_type x) a) _ _ (λ b.
-          ap (λ (k : Slot). maybe (next_of p x.from x.from_side k) true (λ v. maybe (target p l v) true (λ w. maybe (place_of p a.task w) true (λ c. ltb i c))))
-          (froms l x h q (ap (λ (y : EventType). y.task) (type_true (to_type x) a b) ∙ of)))
+  met_same a of i l h = grind (arith, nat_tests)
 
   all_same_met : (a : EventType) → a.task ≡ t → (i n : ℕ) → n ≤ link_count p → links_met_by p us a i n ≡ links_met_by p ss a i n
   all_same_met a of i zero h = refl
@@ -63,95 +46,29 @@ module _ (p : Plan) (ss us : List Slot) (t : ℕ) (own : slot_of us t ≡ slot_o
       go false = ap (λ (r : Result (Unit {0}) Refusal). cond (is_ok r) (Some (event t (cond (slot_of ss t).running Finish Start) (slot_of ss t).word)) None)
           (post_same (cond (slot_of ss t).running Finish Start) (slot_of ss t).word)
 
--- the bits of sets
-or_none : (x y : ℕ) → x < 2 → y < 2 → bit_or x y ≡ 0 → (x ≡ 0) × (y ≡ 0)
-or_none zero zero a b h = (refl, refl)
-or_none zero (suc zero) a b h = absurd (omega (arith, h))
-or_none (suc zero) zero a b h = absurd (omega (arith, h))
-or_none (suc zero) (suc zero) a b h = absurd (omega (arith, h))
-or_none (suc (suc x)) y a b h = absurd (omega arith)
-or_none zero (suc (suc y)) a b h = absurd (omega arith)
-or_none (suc zero) (suc (suc y)) a b h = absurd (omega arith)
-
-or_bit : (a b t : ℕ) → bit_of (bit_or a b) t ≡ bit_or (bit_of a t) (bit_of b t)
-or_bit a b t = ap (λ (x : ℕ). x % 2) (or_shr a b t) ∙ or_mod (a / 2 ^ t) (b / 2 ^ t) 1
-
-xor_bit : (a b t : ℕ) → bit_of (bit_xor a b) t ≡ bit_xor (bit_of a t) (bit_of b t)
-xor_bit a b t = ap (λ (x : ℕ). x % 2) (xor_shr a b t) ∙ xor_mod (a / 2 ^ t) (b / 2 ^ t) 1
-
-not_either : (a b t : ℕ) → bit_of (bit_or a b) t ≡ 0 → (bit_of a t ≡ 0) × (bit_of b t ≡ 0)
-not_either a b t h = or_none (bit_of a t) (bit_of b t) (omega arith) (omega arith) (sym (or_bit a b t) ∙ h)
-
-or_one : (x y : ℕ) → x < 2 → y < 2 → (x ≡ 1) ⊎ (y ≡ 1) → bit_or x y ≡ 1
-or_one zero zero a b h = ⊎_elim (λ q. absurd (omega arith)) (λ q. absurd (omega arith)) h
-or_one zero (suc zero) a b h = refl
-or_one (suc zero) zero a b h = refl
-or_one (suc zero) (suc zero) a b h = refl
-or_one (suc (suc x)) y a b h = absurd (omega arith)
-or_one zero (suc (suc y)) a b h = absurd (omega arith)
-or_one (suc zero) (suc (suc y)) a b h = absurd (omega arith)
-
-pub either : (a b t : ℕ) → (bit_of a t ≡ 1) ⊎ (bit_of b t ≡ 1) → bit_of (bit_or a b) t ≡ 1
-either a b t h = or_bit a b t ∙ or_one (bit_of a t) (bit_of b t) (omega arith) (omega arith) h
-
-pub own_bit : (t : ℕ) → bit_of (2 ^ t) t ≡ 1
-own_bit t = ap (λ (x : ℕ). x % 2) (ap (λ (x : ℕ). x / 2 ^ t) (let e : 2 ^ t ≡ 1 * 2 ^ t = omega arith in e) ∙ shl-shr 1 t)
-
-even : (d : ℕ) → 2 ^ (1 + d) % 2 ≡ 0
-even d = let e : 2 ^ (1 + d) ≡ 2 * 2 ^ d = pow-add 2 1 d in omega (arith, e)
-
-other_bit : (u t : ℕ) → (t ≡ u → ⊥) → bit_of (2 ^ u) t ≡ 0
-other_bit u t ne = ⊎_elim
-    (λ (l : t < u).
-    let d = u - suc t in
-    let e : u ≡ (1 + d) + t = omega arith in
-    let k : 2 ^ u / 2 ^ t ≡ 2 ^ (1 + d) = ap (λ (x : ℕ). 2 ^ x / 2 ^ t) e ∙ ap (λ (x : ℕ). x / 2 ^ t) (pow-add 2 (1 + d) t) ∙ shl-shr (2 ^ (1 + d)) t in
-    ap (λ (x : ℕ). x % 2) k ∙ even d)
-    (λ (l : u ≤ t).
-    let b : 2 ^ u < 2 ^ t = pow_below u t (omega arith) in
-    let z : 2 ^ u / 2 ^ t ≡ 0 = omega (arith, div_below (2 ^ u) (2 ^ t) 1 (pow_pos t) (omega arith)) in
-    ap (λ (x : ℕ). x % 2) z) (cases_lt t u)
-
-xor_zero : (x : ℕ) → x < 2 → bit_xor x 0 ≡ x
-xor_zero zero h = refl
-xor_zero (suc zero) h = refl
-xor_zero (suc (suc x)) h = absurd (omega arith)
-
-without : (a u t : ℕ) → (t ≡ u → ⊥) → bit_of (bit_xor a (2 ^ u)) t ≡ bit_of a t
-without a u t ne = xor_bit a (2 ^ u) t ∙ ap (bit_xor (bit_of a t)) (other_bit u t ne) ∙ xor_zero (bit_of a t) (omega arith)
-
--- the set of all
-ones : ℕ → Bool
-ones zero = true
-ones (suc t) = eqb (bit_of 18446744073709551615 t) 1 && ones t
-
-one_of : (t : ℕ) → t < 64 → bit_of 18446744073709551615 t ≡ 1
-unfolding ones
-one_of t h = eqb-true _ _ (each_below (λ u. eqb (bit_of 18446744073709551615 u) 1) ones (λ u. refl) 64 t refl h)
+or_false : (x y : Bool) → (x || y) ≡ false → (x ≡ false) × (y ≡ false)
+or_false false y h = (refl, h)
+or_false true y h = absurd (both_ways true h refl)
 
 module _ (p : Plan) (keeps : Keeps p) where
   -- at first the set has all tasks
-  pub rested_all : (ss : List Slot) → Rested p ss 18446744073709551615
-  rested_all ss t h q = absurd (omega (arith, q, one_of t (omega (arith, h, keeps.few_tasks))))
+  pub rested_all : (ss : List Slot) (all : TaskSet) → ((t : ℕ) → t < 64 → has all t ≡ true) → Rested p ss all
+  rested_all ss all h t k q = absurd (both_ways (has all t) q (h t (omega (arith, k, keeps.few_tasks))))
 
-  module _ (ss us : List Slot) (due u bit : ℕ) (is : bit ≡ 2 ^ u) (so : Rested p ss due) (here : ready_of p us u ≡ None) where
-    left : (t : ℕ) → (t ≡ u → ⊥) → bit_of (bit_xor due bit) t ≡ bit_of due t
-    left t ne = ap (λ (x : ℕ). bit_of (bit_xor due x) t) is ∙ without due u t ne
+  -- where an event of a task that the set has is posted, the tasks that links lead to from it come in
+  pub rested_woken : (ss us : List Slot) (due new : TaskSet) (u : ℕ) {r : Routes} → Rested p ss due → Routed p (link_count p) r → has due u ≡ true
+      → ((t : ℕ) → (t ≡ u → ⊥) → slot_of us t ≡ slot_of ss t) → ((t : ℕ) → has new t ≡ (has (links_at r.tasks u).next t || has due t)) → Rested p us new
+  rested_woken ss us due new u {r = r} so routed inside others put t h q =
+      let o = or_false (has (links_at r.tasks u).next t) (has due t) (sym (put t) ∙ q) in
+      let apart : t ≡ u → ⊥ = λ s. both_ways (has due t) o.1 (subst (λ (i : ℕ). has due i ≡ true) (sym s) inside) in
+      ready_same p ss us t (others t apart) (λ l x k link to. others x.from.task (λ from.
+      both_ways (has (links_at r.tasks u).next t) o.0
+      (subst (λ (i : ℕ). has (links_at r.tasks i).next t ≡ true) from (subst (λ (i : ℕ). has (links_at r.tasks x.from.task).next i ≡ true) to (routed.next_at l x k link)))))
+      ∙ so t h o.1
 
-    -- a task of which nothing was posted leaves the set
-    pub rested_quiet : us ≡ ss → Rested p us (bit_xor due bit)
-    rested_quiet e t h q = ⊎_elim
-        (λ (s : t ≡ u). ap (ready_of p us) s ∙ here)
-        (λ (s : t ≡ u → ⊥). ap (λ (ws : List Slot). ready_of p ws t) e ∙ so t h (sym (left t s) ∙ q)) (cases_eq t u)
-
-    -- one of which something was posted leaves it too, and brings in those that links lead to from it
-    pub rested_woken : {last before next : List ℕ} → Routed p (link_count p) last before next → ((t : ℕ) → (t ≡ u → ⊥) → slot_of us t ≡ slot_of ss t)
-        → Rested p us (bit_or (bit_xor due bit) (get_or next u 0))
-    rested_woken {next = next} routed others t h q = ⊎_elim
-        (λ (s : t ≡ u). ap (ready_of p us) s ∙ here)
-        (λ (s : t ≡ u → ⊥).
-        let o = not_either (bit_xor due bit) (get_or next u 0) t q in
-        ready_same p ss us t (others t s) (λ l x k r to. others x.from (λ from.
-        let e : bit_of (get_or next x.from 0) x.to ≡ bit_of (get_or next u 0) t = ap (λ (i : ℕ). bit_of (get_or next i 0) x.to) from ∙ ap (bit_of (get_or next u 0)) to in
-        absurd (omega (arith, o.1, e, routed.next_at l x k r))))
-        ∙ so t h (sym (left t s) ∙ o.0)) (cases_eq t u)
+  -- a task of which no event is ready may leave the set
+  pub rested_left : (ss : List Slot) (due left : TaskSet) (u : ℕ) → Rested p ss due → ready_of p ss u ≡ None
+      → ((t : ℕ) → t < 64 → has left t ≡ (not (eqb t u) && has due t)) → Rested p ss left
+  rested_left ss due left u so here out t h q = ⊎_elim
+      (λ (s : t ≡ u). ap (ready_of p ss) s ∙ here)
+      (λ (s : t ≡ u → ⊥). so t h (sym (out t (omega (arith, h, keeps.few_tasks)) ∙ ap (λ (b : Bool). not b && has due t) (ne_eqb t u s)) ∙ q)) (cases_eq t u)

@@ -1,7 +1,7 @@
 -- Ways of playing a run to its end: one exists, all end alike, and the verdict is theirs.
 use Rattle.std.proofs.Common.{◌≡◌, ℕ, zero, suc, ◌+◌, ◌≤◌, Bool, true, false, cond, not, List, [], ◌∷◌, ◌++◌, length, sym, refl, ap, ◌∙◌, subst, ⊎_elim, arith}
 use mathlib.Core.Path.{fun_ext}
-use Rattle.std.proofs.lemmas.Bool.{both_ways, eq-eqb, ne_eqb, lt-ltb, le-ltb}
+use Rattle.std.proofs.lemmas.Bool.{both_ways, eq-eqb, ne_eqb, lt-ltb, le-ltb, false_from_ne_true}
 use Rattle.plans.specs.declared.event.Event.{Event}
 use Rattle.plans.specs.Plan.{Plan, task_count}
 use Rattle.plans.specs.Events.{Secured, none, more, Configuration, same_event, among}
@@ -10,7 +10,7 @@ use Rattle.runs.specs.declared.calls.Call.{Call}
 use Rattle.runs.specs.declared.calls.Call.TheVariants.{Verdict}
 use Rattle.runs.specs.Calls.{with, posted, nothing, standing, reply, ready, plays, remaining, verdict_check, word_for}
 use Rattle.runs.specs.Laws.{Same, Ready, Steps, Way, VerdictOf}
-use Rattle.runs.proofs.Tests.{no_true, event_true, event_same, among_here, among_there, among_cases, nothing_among}
+use Rattle.runs.proofs.Tests.{event_true, event_same, among_here, among_there, among_cases, nothing_among}
 use Rattle.runs.proofs.Places.{listed}
 use Rattle.runs.proofs.Order.{removed, among_removed, secured_of_plan}
 use Rattle.runs.proofs.Stands.{conf_with, conf_with_size, conf_nothing, ends_same, always_a_configuration, none_ready, lists_the_ready}
@@ -18,11 +18,7 @@ use Rattle.runs.proofs.Stands.{conf_with, conf_with_size, conf_nothing, ends_sam
 -- Events of a list, each there once, are no more than those of a list that has them all.
 kept_shorter : (f : Event → Bool) (es : List Event) → length (kept f es) ≤ length es
 kept_shorter f [] = omega arith
-kept_shorter f (e ∷ es) = go (kept_shorter f es) (f e)
-  where
-    go : length (kept f es) ≤ length es → (b : Bool) → length (cond b (e ∷ kept f es) (kept f es)) ≤ suc (length es)
-    go ih true = omega arith
-    go ih false = omega arith
+kept_shorter f (e ∷ es) = let before = kept_shorter f es in grind arith
 
 removed_shorter : (e : Event) (es : List Event) → among es e ≡ true → suc (length (removed e es)) ≤ length es
 unfolding removed
@@ -37,7 +33,7 @@ removed_shorter e (x ∷ es) h = go (removed_shorter e es) (same_event x e) refl
 pub no_more : (p : Plan) {es : List Event} → Secured p es → (fs : List Event) → ((e : Event) → among es e ≡ true → among fs e ≡ true) → length es ≤ length fs
 no_more p none fs h = omega arith
 no_more p (more x es s o w c) fs h =
-    let ih = no_more p s (removed x fs) (λ e k. among_removed x e fs (h e (among_there x e es k)) (no_true _ (λ q. both_ways _ w (subst (λ (y : Event). among es y ≡ true) (event_true e x q) k)))) in
+    let ih = no_more p s (removed x fs) (λ e k. among_removed x e fs (h e (among_there x e es k)) (false_from_ne_true _ (λ q. both_ways _ w (subst (λ (y : Event). among es y ≡ true) (event_true e x q) k)))) in
     let k = removed_shorter x fs (h x (among_here x es)) in
     omega arith
 

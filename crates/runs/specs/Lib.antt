@@ -1,9 +1,12 @@
 pub mod Refusals
+pub mod Phase
 pub mod Order
 pub mod Calls
 pub mod Laws
 pub mod Slots
 pub mod Limit
+pub mod TaskSets
 pub mod Routes
 pub mod Play
+pub mod Lent
 pub mod Shows

@@ -5,8 +5,8 @@ use Rattle.plans.specs.declared.ends.Side.{Side}
 use Rattle.plans.specs.declared.ends.Side.TheVariants.{Start, Finish}
 use Rattle.plans.specs.Plan.{Plan, Link, next_word, gives}
 use Rattle.plans.specs.Record.{same_side}
-use Rattle.plans.specs.Ppo.{EventType}
-use Rattle.plans.specs.Orders.{from_type, to_type, type_of}
+use Rattle.plans.specs.declared.ends.EventType.{EventType}
+use Rattle.plans.specs.Orders.{type_of}
 
 -- the starts, or the finishes, of a task
 abbrev pub event_type : ℕ → Side → EventType
@@ -58,7 +58,7 @@ events p = events_from 0 p.tasks
 
 -- whether the link k gives the event e from the event d
 unfoldable pub links_to : Plan → Event → Event → Link → Bool
-links_to p e d k = same_type (from_type k.ends) (type_of d) && same_type (to_type k.ends) (type_of e) && same_word (gives p k d.word) (Some e.word)
+links_to p e d k = same_type k.ends.from (type_of d) && same_type k.ends.to (type_of e) && same_word (gives p k d.word) (Some e.word)
 
 -- whether the event e rests on the event d
 unfoldable pub rests : Plan → Event → Event → Bool

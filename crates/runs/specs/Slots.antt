@@ -1,13 +1,15 @@
 -- A slot for each task, a word and two flags: how many events of the task it tells to stand, and what each call does with the slots.
 use Rattle.std.specs.Prelude.{◌≡◌, ℕ, zero, suc, ◌+◌, ◌*◌, ◌/◌, ◌%◌, ◌<◌, ◌≤◌, Bool, true, false, cond, ◌&&◌, nat_lt, List, [], ◌∷◌, ◌++◌, length, is_ok, Some, None, Ok, Err, Option, Result, ◌==◌, nat_le, slice_index_or, slice_set}
-use Rattle.std.specs.Option.{unwrap_or}
+use Rattle.std.specs.Option.{unwrap_or, option_map}
 use Rattle.plans.specs.declared.event.Event.{Event}
-use Rattle.plans.specs.Ppo.{EventType}
+use Rattle.plans.specs.declared.ends.EventType.{EventType}
 use Rattle.plans.specs.declared.ends.Side.{Side}
 use Rattle.plans.specs.declared.ends.Side.TheVariants.{Start, Finish}
+use Rattle.plans.specs.Lists.{and_then}
 use Rattle.plans.specs.Plan.{Plan, words_of, word_at, place_of, next_word, task_count, link_count, link_ends, target}
-use Rattle.plans.specs.Orders.{from_type, to_type, type_of}
+use Rattle.plans.specs.Orders.{type_of}
 use Rattle.runs.specs.Order.{same_type, event}
+use Rattle.runs.specs.declared.checks.Known.{Known}
 use Rattle.runs.specs.declared.table.Slot.{Slot}
 use Rattle.runs.specs.declared.refusal.Refusal.{Refusal}
 use Rattle.runs.specs.declared.refusal.Refusal.TheVariants.{NoTask, NoWord, Stands, Waits, Absent, RestedOn}
@@ -84,8 +86,8 @@ next_of p t Finish s = cond s.done None (Some s.word)
 abbrev pub link_met_by : Plan → List Slot → EventType → ℕ → ℕ → Bool
 link_met_by p slots a i l =
     maybe (link_ends p l) true
-    (λ e. cond (same_type (to_type e) a)
-    (maybe (next_of p e.from e.from_side (slot_of slots e.from)) true
+    (λ e. cond (same_type e.to a)
+    (maybe (next_of p e.from.task e.from.side (slot_of slots e.from.task)) true
     (λ v. maybe (target p l v) true (λ w. maybe (place_of p a.task w) true (λ b. nat_lt i b))))
     true)
 
@@ -94,14 +96,28 @@ abbrev pub links_met_by : Plan → List Slot → EventType → ℕ → ℕ → B
 links_met_by p slots a i zero = true
 links_met_by p slots a i (suc l) = link_met_by p slots a i l && links_met_by p slots a i l
 
+-- what is known of the event of a type at a place
+abbrev pub known_at : Plan → List Slot → EventType → ℕ → Known
+known_at p slots a i = record { place = i; at = rank i a.side; count = slot_count p a.task (slot_of slots a.task) }
+
+-- what is known of an event, or that the plan does not have it
+abbrev pub known_by : Plan → List Slot → Event → Result Known Refusal
+known_by p slots e = cond (nat_lt e.task (task_count p)) (maybe (place_of p e.task e.word) (Err NoWord) (λ i. Ok (known_at p slots (type_of e) i))) (Err NoTask)
+
+-- what is known of the event that link l gives at the word v of the type
+abbrev pub given_by : Plan → List Slot → EventType → ℕ → ℕ → Option Known
+given_by p slots a v l =
+    and_then (link_ends p l) (λ e. cond (same_type e.from a)
+    (and_then (target p l v) (λ w. option_map (known_at p slots e.to) (place_of p e.to.task w))) None)
+
 -- link l gives, at the word v of the type, no event that stands
 abbrev pub link_free_by : Plan → List Slot → EventType → ℕ → ℕ → Bool
 link_free_by p slots a v l =
     maybe (link_ends p l) true
-    (λ e. cond (same_type (from_type e) a)
+    (λ e. cond (same_type e.from a)
     (maybe (target p l v) true
-    (λ w. maybe (place_of p e.to w) true
-    (λ b. nat_le (slot_count p e.to (slot_of slots e.to)) (rank b e.to_side))))
+    (λ w. maybe (place_of p e.to.task w) true
+    (λ b. nat_le (slot_count p e.to.task (slot_of slots e.to.task)) (rank b e.to.side))))
     true)
 
 -- nor do the links below n

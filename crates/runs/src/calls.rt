@@ -1,6 +1,6 @@
 // The calls of a run, and their answers.
-use crate::refusal::Refusal;
-use plans::Event;
+use crate::refusal::Outcome;
+use plans::{Event, Row};
 
 // A call on a run.
 #[derive(Clone, Copy)]
@@ -15,27 +15,14 @@ pub enum Call {
     Verdict(u32),
 }
 
-// Ready events: the first `count` of them. No plan has more than 64 tasks.
-#[derive(Clone, Copy)]
-pub struct ReadyEvents {
-    pub events: [Event; 64],
-    pub count: usize,
-}
-
-// The bytes of a state table: the first `count` of them.
-#[derive(Clone, Copy)]
-pub struct TableBytes {
-    pub bytes: [u8; 320],
-    pub count: usize,
-}
-
-// The answer to a call.
+// What a call that is not refused is answered with.
 #[derive(Clone, Copy)]
 pub enum Answer {
     Accepted,
-    Refused(Refusal),
-    Listed(ReadyEvents),
-    Filled(TableBytes),
-    Finishes(u32),
-    DeadEnd(u32),
+    // the ready events; no plan has more than 64 tasks
+    Listed(Row<Event, 64>),
+    // the bytes of the state table, five a task
+    Filled(Row<u8, 320>),
+    // the verdict
+    Played(Outcome),
 }

@@ -1,14 +1,10 @@
-// A list over memory that its caller lends.
-ghost use Rattle.std.specs.Prelude.{◌≡◌, ◌+◌, ◌<◌, ◌≤◌, true, false, length, take, slice_set};
+// What lists in lent memory do.
+ghost use Rattle.std.specs.Prelude.{◌≡◌, ◌+◌, ◌<◌, ◌≤◌, length, take, slice_set};
 ghost use Rattle.std.proofs.Math.Seq.{paste};
+ghost use Rattle.runs.specs.Lent.{items, Holds};
 
-// A list in memory that its caller lends: the first `len` elements of `room`.
-#[derive(Drop)]
-pub struct List<'a, T> {
-    room: &'a mut [T],
-    len: usize,
-    ghost fits: { len ≤ length room.now },
-}
+use crate::lent::List;
+use plans::Full;
 
 impl<'a, T: Copy> List<'a, T> {
     // An empty list over `room`, which stays as it is.
@@ -29,38 +25,38 @@ impl<'a, T: Copy> List<'a, T> {
 
     // The elements, in the order in which they were pushed.
     pub fn items(&self) -> &[T]
-        ensures { result.now ≡ take self.now.len self.now.room.now }
+        ensures { result.now ≡ items self.now }
     {
         &self.room[0..self.len]
     }
 
-    // One element more; where there is no room, false and no change.
-    pub fn push(&mut self, x: T) -> bool
-        ensures full { length self.old.room.now ≤ self.old.len → (result ≡ false) × (self.new.len ≡ self.old.len) × (self.new.room.now ≡ self.old.room.now) }
-        ensures pushed { self.old.len < length self.old.room.now → (result ≡ true) × (self.new.len ≡ self.old.len + 1) × (self.new.room.now ≡ slice_set self.old.room.now self.old.len x) }
+    // One element more; where there is no room, no change.
+    pub fn push(&mut self, x: T) -> Result<(), Full>
+        ensures full { length self.old.room.now ≤ self.old.len → (result ≡ Err (record {})) × Holds self.new self.old.len self.old.room.now }
+        ensures pushed { self.old.len < length self.old.room.now → (result ≡ Ok tt) × Holds self.new (self.old.len + 1) (slice_set self.old.room.now self.old.len x) }
         ensures named { self.new.room.ghost_name ≡ self.old.room.ghost_name }
     {
         let at = self.len;
         if at >= self.room.len() {
-            return false;
+            return Err(Full);
         }
         self.room[at] = x;
         self.len = at + 1;
-        true
+        Ok(())
     }
 
-    // All the elements of `items`; where there is no room for all of them, false and no change.
-    pub fn append(&mut self, items: &[T]) -> bool
-        ensures full { length self.old.room.now < self.old.len + length items.now → (result ≡ false) × (self.new.len ≡ self.old.len) × (self.new.room.now ≡ self.old.room.now) }
-        ensures appended { self.old.len + length items.now ≤ length self.old.room.now → (result ≡ true) × (self.new.len ≡ self.old.len + length items.now) × (self.new.room.now ≡ paste self.old.room.now self.old.len items.now (length items.now)) }
+    // All the elements of `items`; where there is no room for all of them, no change.
+    pub fn append(&mut self, items: &[T]) -> Result<(), Full>
+        ensures full { length self.old.room.now < self.old.len + length items.now → (result ≡ Err (record {})) × Holds self.new self.old.len self.old.room.now }
+        ensures appended { self.old.len + length items.now ≤ length self.old.room.now → (result ≡ Ok tt) × Holds self.new (self.old.len + length items.now) (paste self.old.room.now self.old.len items.now (length items.now)) }
         ensures named { self.new.room.ghost_name ≡ self.old.room.ghost_name }
     {
         if self.free() < items.len() {
-            return false;
+            return Err(Full);
         }
-        for x in items {
-            let _ = self.push(*x);
-        }
-        true
+        let end = self.len + items.len();
+        self.room[self.len..end].copy_from_slice(items);
+        self.len = end;
+        Ok(())
     }
 }

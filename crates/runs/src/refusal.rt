@@ -1,6 +1,9 @@
 // Why a call is refused, and what a verdict says.
 ghost use Rattle.std.specs.Prelude.{◌≡◌};
 ghost use Rattle.runs.specs.Refusals.{number_of};
+ghost use Rattle.runs.specs.declared.refusal.Refusal.TheVariants.{NoRoom};
+
+use plans::Full;
 
 // Why a call is refused, by number.
 #[derive(Clone, Copy)]
@@ -34,7 +37,17 @@ impl Refusal {
     }
 }
 
+// A list that is full has no room.
+impl From<Full> for Refusal {
+    ghost from_gives = { λ _ e. e ≡ NoRoom };
+
+    fn from(_full: Full) -> Refusal {
+        Refusal::NoRoom
+    }
+}
+
 // What playing the remaining events comes to, with their number.
+#[derive(Clone, Copy)]
 pub enum Outcome {
     // every event of the plan then stands
     Finishes(u32),

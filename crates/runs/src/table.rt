@@ -1,10 +1,13 @@
 // The table of a run: one slot for each task.
-ghost use Rattle.std.specs.Prelude.{◌≡◌, ◌≤◌};
-ghost use Rattle.runs.specs.Slots.{fresh, started, finished, undone, row as row_of, slot_event, progress as progress_of};
+ghost use Rattle.std.specs.Prelude.{◌≡◌};
+ghost use Rattle.runs.specs.Slots.{fresh, started, finished, undone, row as row_of, slot_event, progress};
+ghost use Rattle.runs.specs.Phase.{byte_of};
 
+use crate::phase::Phase;
 use plans::{Event, Side, Word};
 
 // What a run keeps of one task: a word, and whether its start stands without its finish, or all stands.
+// Its form is a rule of the project: one word and two flags, and no enum with the word in it.
 #[derive(Clone, Copy)]
 pub struct Slot {
     pub(crate) word: Word,
@@ -60,17 +63,16 @@ impl Slot {
         self.done = false;
     }
 
-    // 0 waiting, 1 running, 2 done
-    pub(crate) fn progress(&self) -> u8
-        ensures value { result ≡ progress_of self.now }
-        ensures small { result ≤ 2 }
+    // How far the slot's task is.
+    pub(crate) fn phase(&self) -> Phase
+        ensures { byte_of result ≡ progress self.now }
     {
         if self.done {
-            2
+            Phase::Done
         } else if self.running {
-            1
+            Phase::Running
         } else {
-            0
+            Phase::Waiting
         }
     }
 
@@ -79,7 +81,7 @@ impl Slot {
         ensures { result ≡ row_of self.now }
     {
         let [a, b, c, d] = self.word.to_be_bytes();
-        [a, b, c, d, self.progress()]
+        [a, b, c, d, self.phase() as u8]
     }
 
     // The event to come of the slot's task.

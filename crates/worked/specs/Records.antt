@@ -25,7 +25,7 @@ halved = 0x10 ∷ 0x80 ∷ 0x90 ∷ 0x00 ∷ 0x31 ∷ 0x00 ∷ 0x01 ∷ 0x02 ∷
 -- the targets of a plan's first link
 abbrev pub targets_of : List ℕ → List (Option ℕ)
 targets_of bs =
-    (slice_index_or (meaning bs).links 0 (record { ends = record { from = 0; from_side = Start; to = 0; to_side = Start }; targets = [] })).targets
+    (slice_index_or (meaning bs).links 0 (record { ends = record { from = record { task = 0; side = Start }; to = record { task = 0; side = Start } }; targets = [] })).targets
 
 pub record WorkedRecords : Type 0 where
   pub accepted : is_ok (checked pipelined) ≡ true

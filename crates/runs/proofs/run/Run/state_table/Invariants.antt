@@ -1,7 +1,12 @@
-use Rattle.std.proofs.Common.{◌≡◌, ◌*◌, take, drop}
+use Rattle.std.proofs.Common.{◌≡◌, ◌*◌}
+use lib.Seq.{paste}
+use Rattle.runs.specs.Lent.{Holds}
 use Rattle.runs.specs.Slots.{rows}
 use Rattle.runs.proofs.run.Run.state_table.Given as goal
 
--- the rows of the tasks so far, and then what was there
-abbrev pub invariant-loop-task : goal.invariant-loop-task
-invariant-loop-task g l = (take (5 * l.task) l.out ≡ rows l.self.table.slots l.task) × (drop (5 * l.task) l.out ≡ drop (5 * l.task) l.initial.out)
+-- the rows of the slots so far, and then what was there
+abbrev pub invariant-loop-slot : goal.invariant-loop-slot
+invariant-loop-slot g l = record {
+  filled : Holds l.rows (5 * l.slot-index) (paste l.initial.rows.room.now 0 (rows l.self.table.slots l.slot-index) (5 * l.slot-index));
+  named : l.rows.room.ghost_name ≡ l.initial.rows.room.ghost_name;
+}
