@@ -8,7 +8,7 @@ use runs::{Outcome, Run};
 use std::time::Instant;
 use std::{env, fmt, fs, io};
 
-// More events than any plan has.
+// As many events as any plan has.
 const BUDGET: u32 = 8_388_608;
 
 // Each question is asked so often.
@@ -109,6 +109,7 @@ fn play<S: Source + Drop>(rt: &HostRuntime, plan: S) -> io::Result<(u32, u128)> 
     let start = Instant::now(rt)?;
     let count = match run.verdict(BUDGET) {
         Ok(Outcome::Finishes(count) | Outcome::DeadEnd(count)) => count,
+        // a refused verdict has posted nothing that is counted
         Err(_) => 0,
     };
     Ok((count, start.elapsed(rt)?.as_nanos()))

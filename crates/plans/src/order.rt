@@ -33,6 +33,7 @@ impl Joined {
         ensures { result ≡ rising 0 (target_places self.now.from.params self.now.to.params self.now.each) }
     {
         let mut least = Some(0);
+        // by place: the words of a task are computed, and stored nowhere
         for i in 0..self.from.word_count() {
             let place = self.place_at(i);
             if !follows(least, place) {

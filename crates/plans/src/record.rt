@@ -13,5 +13,6 @@ pub struct Record {
     pub(crate) tasks: Tasks,
     pub(crate) links: Row<Link, 64>,
     pub(crate) names: Row<Name, 32>,
+    ghost all_named: { length (items names) ≡ length (items tasks.each) },
     ghost good: { good_links (length (items tasks.each)) (items links) ≡ true },
 }

@@ -8,7 +8,7 @@ use std::alloc::{AllocError, Global};
 use std::io;
 use std::io::{BufRead, BufReader};
 
-// The value of a hexadecimal digit.
+// The value of a hexadecimal digit, of the small ones alone; `char::to_digit` takes capitals too.
 fn digit(c: u8) -> Option<u8>
     ensures { IfSome result (λ n. n < 16) }
 {
@@ -35,7 +35,7 @@ fn bytes_of(heap: Global, digits: &[u8]) -> Result<Vec<u8>, AllocError> {
     Ok(bytes)
 }
 
-// The row for one record.
+// The row for one record. It is checked and then unpacked, so that both calls are tried.
 fn tell(rt: &impl Print, name: &str, bytes: &[u8]) -> io::Result<()> {
     match check(bytes) {
         Ok(()) => {

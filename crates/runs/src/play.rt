@@ -9,43 +9,49 @@ use crate::refusal::Refusal;
 use crate::table::Table;
 use plans::{Event, Side, Source};
 
-// Enters an accepted event in its task's slot.
-pub(crate) fn enter<S: Source>(source: &S, table: &mut Table, event: Event)
-    requires { event.task < 64 }
-    ensures { table.new.slots ≡ entered (S.plan source.now) table.old.slots event }
-{
-    let slot = &mut table.slots[event.task];
-    match event.side {
-        Side::Start => slot.begin(),
-        Side::Finish => {
-            let next = source.next_word(event.task, slot.word);
-            slot.end(next);
+impl Table {
+    // Enters an accepted event in its task's slot. An accepted one is of a task below 64: a test here would be of what is known.
+    pub(crate) fn enter<S: Source>(&mut self, source: &S, event: Event)
+        requires { event.task < 64 }
+        ensures { self.new.slots ≡ entered (S.plan source.now) self.old.slots event }
+    {
+        let slot = &mut self.slots[event.task];
+        match event.side {
+            Side::Start => slot.begin(),
+            Side::Finish => {
+                let next = source.next_word(event.task, slot.word);
+                slot.end(next);
+            }
         }
     }
-}
 
-// Posts an event where its checks allow it.
-pub(crate) fn post_in<S: Source>(source: &S, table: &mut Table, event: Event) -> Result<(), Refusal>
-    ensures reply { result ≡ post_by (S.plan source.now) table.old.slots event }
-    ensures slots { table.new.slots ≡ posted_by (S.plan source.now) table.old.slots event }
-{
-    View { source, table }.check_post(event)?;
-    enter(source, table, event);
-    Ok(())
-}
+    // Posts an event where its checks allow it.
+    pub(crate) fn post<S: Source>(&mut self, source: &S, event: Event) -> Result<(), Refusal>
+        ensures reply { result ≡ post_by (S.plan source.now) self.old.slots event }
+        ensures slots { self.new.slots ≡ posted_by (S.plan source.now) self.old.slots event }
+    {
+        let view = View {
+            source,
+            table: self,
+        };
+        view.check_post(event)?;
+        self.enter(source, event);
+        Ok(())
+    }
 
-// Takes an event back where its checks allow it.
-pub(crate) fn take_back_in<S: Source>(
-    source: &S,
-    table: &mut Table,
-    event: Event,
-) -> Result<(), Refusal>
-    ensures reply { result ≡ take_back_by (S.plan source.now) table.old.slots event }
-    ensures slots { table.new.slots ≡ taken_back_by (S.plan source.now) table.old.slots event }
-{
-    View { source, table }.check_take_back(event)?;
-    table.slots[event.task].undo(event.side, event.word);
-    Ok(())
+    // Takes an event back where its checks allow it.
+    pub(crate) fn take_back<S: Source>(&mut self, source: &S, event: Event) -> Result<(), Refusal>
+        ensures reply { result ≡ take_back_by (S.plan source.now) self.old.slots event }
+        ensures slots { self.new.slots ≡ taken_back_by (S.plan source.now) self.old.slots event }
+    {
+        let view = View {
+            source,
+            table: self,
+        };
+        view.check_take_back(event)?;
+        self.slots[event.task].undo(event.side, event.word);
+        Ok(())
+    }
 }
 
 // Whether every task is done.

@@ -8,7 +8,6 @@ ghost use Rattle.runs.specs.TaskSets.{has as has_task};
 ghost use Rattle.runs.specs.Play.{Played, counted, Stuck};
 
 use crate::checks::View;
-use crate::play::enter;
 use crate::refusal::Refusal;
 use crate::routes::{Limits, Routes, routes_of};
 use crate::table::Table;
@@ -41,6 +40,7 @@ fn next_below(table: &Table, task: usize, place: u32, limits: Limits) -> Option<
         .filter(|event| place < limits.of(event.side))
 }
 
+// What a method leaves alone is one clause in each: a definition of it would have to stand apart from the player, in two more files.
 impl<S: Source> Player<'_, S> {
     // Posts the events of a task while one is ready.
     fn play_task(&mut self, task: usize) -> Result<(), Refusal>
@@ -63,7 +63,7 @@ impl<S: Source> Player<'_, S> {
                 return Err(Refusal::OverBudget);
             }
             self.due.join(self.routes.tasks[task].next);
-            enter(self.source, self.table, event);
+            self.table.enter(self.source, event);
             place = match event.side {
                 Side::Start => place,
                 Side::Finish => place + 1,
@@ -91,6 +91,7 @@ impl<S: Source> Player<'_, S> {
         ensures played { Played (S.plan self.old.source.now) self.old.table.now.slots self.old.count self.old.budget self.new.table.now.slots (counted self.new.count result) (λ n. n ≡ self.old.count → Stuck (S.plan self.old.source.now) self.new.table.now.slots) }
         ensures same { (self.new.source ≡ self.old.source) × (self.new.budget ≡ self.old.budget) × (self.new.table.ghost_name ≡ self.old.table.ghost_name) }
     {
+        // by number, as a source is asked
         for task in 0..self.source.task_count() {
             self.turn(task)?;
         }

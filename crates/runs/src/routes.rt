@@ -17,7 +17,8 @@ pub(crate) struct TaskLinks {
     pub(crate) next: TaskSet,
 }
 
-// The links of each task, and before each link the last one that leads to the same task.
+// The links of each task, and before each link the last one that leads to the same task. Its memory is fixed, since playing cannot
+// fail for want of it: so the links of a task are a chain of numbers.
 #[derive(Clone, Copy)]
 pub(crate) struct Routes {
     pub(crate) tasks: [TaskLinks; 64],
@@ -65,6 +66,7 @@ pub(crate) fn routes_of<S: Source>(source: &S) -> Routes
         tasks: [alone; 64],
         before: [None; 4096],
     };
+    // by number, as a source is asked
     for link in 0..source.link_count() {
         let Some(ends) = source.ends(link) else {
             continue;

@@ -13,7 +13,7 @@ use crate::calls::{Answer, Call};
 use crate::checks::View;
 use crate::guard::Guard;
 use crate::lent::List;
-use crate::play::{finished, post_in, take_back_in};
+use crate::play::finished;
 use crate::player::play;
 use crate::refusal::{Outcome, Refusal};
 use crate::table::{Slot, Table};
@@ -47,7 +47,7 @@ impl<S: Source> Run<S> {
         ensures performed { Performs S.plan self.old (Post event) (told result) self.new }
         ensures others { (t : ℕ) → (t ≢ event.task) → slot_of self.new.table.slots t ≡ slot_of self.old.table.slots t }
     {
-        post_in(&self.source, &mut self.table, event)
+        self.table.post(&self.source, event)
     }
 
     // Takes an event back; a refused take-back changes nothing.
@@ -55,7 +55,7 @@ impl<S: Source> Run<S> {
         ensures performed { Performs S.plan self.old (TakeBack event) (told result) self.new }
         ensures others { (t : ℕ) → (t ≢ event.task) → slot_of self.new.table.slots t ≡ slot_of self.old.table.slots t }
     {
-        take_back_in(&self.source, &mut self.table, event)
+        self.table.take_back(&self.source, event)
     }
 
     // The ready events, by task number.
@@ -71,6 +71,7 @@ impl<S: Source> Run<S> {
             source: &self.source,
             table: &self.table,
         };
+        // by number, as a source is asked; a row has no collect, since it may be full
         for task in 0..self.source.task_count() {
             if let Some(event) = view.ready_event(task) {
                 found.push(event).unwrap();

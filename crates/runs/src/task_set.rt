@@ -2,7 +2,7 @@
 ghost use Rattle.std.specs.Prelude.{◌≡◌, ℕ, ◌<◌, true, false, not, ◌&&◌, ◌||◌, nat_eq};
 ghost use Rattle.runs.specs.TaskSets.{has as has_task};
 
-// A set of tasks, a bit for each.
+// A set of tasks, a bit for each. Its methods require a task below 64, as every plan has it: total ones would test what callers know.
 #[derive(Clone, Copy)]
 pub(crate) struct TaskSet {
     bits: u64,

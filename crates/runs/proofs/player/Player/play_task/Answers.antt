@@ -48,7 +48,7 @@ invariant_of-self-in-Some-next_below g c =
     let own = (ready_known p ss t e ready).0 in
     record {
       routed = c.loop-event.self.routed;
-      rested = rested_woken p keeps ss c.enter.new.table.slots c.loop-event.self.due c.join.new.self t c.loop-event.self.rested c.loop-event.self.routed i.4
+      rested = rested_woken p keeps ss c.enter.new.self.slots c.loop-event.self.due c.join.new.self t c.loop-event.self.rested c.loop-event.self.routed i.4
           (λ u ne. ap (λ (ws : List Slot). slot_of ws u) c.enter.ensures ∙ get_or-set_other ss e.task u _ blank (λ q. ne (q ∙ own))) c.join.ensures;
       within = omega (arith, c.loop-event.self.within, c.if-self.false);
     }

@@ -8,8 +8,8 @@ returns g c =
     let p = g.S.Source.plan c.args.self.now.source in
     let keeps = g.met.S.Source.keeps c.args.self.now.source in
     let ss = c.args.self.now.table.slots in
-    let left = c.post_in.new.table.slots in
+    let left = c.post.new.self.slots in
     record {
-      performed = post_performs g.S.Source.plan c.args.self.now keeps c.args.event c.post_in.result left c.post_in.ensures.reply c.post_in.ensures.slots;
-      others = others_left (is_ok (post_by p ss c.args.event)) ss left c.args.event.task (stepped p c.args.event.task c.args.event.side (slot_of ss c.args.event.task)) c.post_in.ensures.slots;
+      performed = post_performs g.S.Source.plan c.args.self.now keeps c.args.event c.post.result left c.post.ensures.reply c.post.ensures.slots;
+      others = others_left (is_ok (post_by p ss c.args.event)) ss left c.args.event.task (stepped p c.args.event.task c.args.event.side (slot_of ss c.args.event.task)) c.post.ensures.slots;
     }
