@@ -6,7 +6,7 @@ mod text;
 use planfile::{name, plan_bytes};
 use plans::{EventType, Packed, Source};
 use std::io;
-use text::{Range, Value};
+use text::{End, Range, Value};
 
 // How many events a plan has: two for each word.
 fn events(plan: &Packed) -> u64 {
@@ -38,25 +38,26 @@ fn tell_link(rt: &impl Print, plan: &Packed, number: usize) -> io::Result<()> {
     let Some(ends) = plan.ends(number) else {
         return Ok(());
     };
-    print!(rt; "link {number}: ")?;
-    tell_end(rt, plan, ends.from)?;
+    let from = end(plan, ends.from);
+    print!(rt; "link {number}: {from}")?;
     if let Some(params) = plan.params(ends.from.task) {
         // by number, since the numbers are what is told
         for i in 0..params.used {
             print!(rt; " p{i}")?;
         }
     }
-    print!(rt; " to ")?;
-    tell_end(rt, plan, ends.to)?;
+    let to = end(plan, ends.to);
+    print!(rt; " to {to}")?;
     tell_rules(rt, plan, number, ends.to.task)?;
     println!(rt; "")
 }
 
-// One end of a link, as `finish ld`.
-fn tell_end(rt: &impl Print, plan: &Packed, end: EventType) -> io::Result<()> {
-    let side = end.side;
-    let name = name(plan, end.task);
-    print!(rt; "{side} {name}")
+// One end of a link.
+fn end<'a>(plan: &Packed<'a>, end: EventType) -> End<'a> {
+    End {
+        side: end.side,
+        name: name(plan, end.task),
+    }
 }
 
 // The rules of a link, one for each parameter of the task that it goes to.

@@ -1,5 +1,5 @@
 // What a record's parts look like in print. Types of their own, since `Param` and `Rule` are another crate's.
-use plans::{Param, Rule};
+use plans::{Param, Rule, Side};
 use std::fmt;
 
 // A range, as `1 to 3` or `3 down to 1`.
@@ -43,5 +43,20 @@ impl fmt::Display for Value {
             1 => write!(f, "{sum}"),
             divisor => write!(f, "({sum})/{divisor}"),
         }
+    }
+}
+
+// One end of a link, as `finish ld`: printed at once, since each print is a write of its own.
+#[derive(Clone, Copy)]
+pub struct End<'a> {
+    pub side: Side,
+    pub name: &'a str,
+}
+
+impl fmt::Display for End<'_> {
+    fn fmt<W: fmt::Write>(&self, f: &mut fmt::Formatter<W>) -> fmt::Result {
+        let side = self.side;
+        let name = self.name;
+        write!(f, "{side} {name}")
     }
 }

@@ -1,5 +1,5 @@
 -- Bytes are accepted exactly if they describe a restricted parametrized partial order, and the plan then means it.
-use Rattle.std.proofs.Common.{◌≡◌, ℕ, ◌<◌, true, List, [], length, is_ok, Ok, Err, Result, sym, refl, ap, ◌∙◌, subst, arith}
+use Rattle.std.proofs.Common.{◌≡◌, ℕ, ◌<◌, true, List, [], length, is_ok, Ok, Err, Result, Decides, sym, refl, ap, ◌∙◌, subst, arith}
 use Rattle.std.proofs.ByRecursion.{All-get_or, All-from_get_or}
 use Rattle.plans.specs.declared.fault.Fault.{Fault}
 use Rattle.plans.specs.declared.ends.Side.{Side}
@@ -83,3 +83,7 @@ terms bs =
     by : (m : Result Parts Fault) → checked bs ≡ m → (RecordOf bs → ⊥) → plan_of (parts_or m) ≡ record { tasks = []; links = [] }
     by (Ok q) e none = absurd (none (describes bs q e))
     by (Err f) e none = refl
+
+-- the reply of the definition, whatever it is, decides the terms
+pub decided : (bs : List ℕ) (m : Result Parts Fault) → checked bs ≡ m → Decides (is_ok m) (RecordOf bs)
+decided bs m is = subst (λ x. Decides (is_ok x) (RecordOf bs)) is (terms bs).accepted

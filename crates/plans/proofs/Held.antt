@@ -1,5 +1,5 @@
 -- What is known of a record that was read.
-use Rattle.std.proofs.Common.{◌≡◌, ℕ, ◌<◌, true, ltb, List, map, length, get_or, is_some, Some, None, Ok, Err, Option, sym, ap, ◌∙◌, subst, inl, inr, arith}
+use Rattle.std.proofs.Common.{◌≡◌, ℕ, ◌<◌, true, ltb, List, map, length, get_or, is_some, Some, None, Ok, Err, Option, sym, ap, ◌∙◌, subst, inl, inr, arith, IfSome}
 use Rattle.std.proofs.lemmas.List.{get_or_read, length-map}
 use Rattle.std.proofs.lemmas.Bool.{cases_Bool, ltb-true}
 use Rattle.plans.specs.declared.fault.Fault.{Fault}
@@ -110,3 +110,7 @@ module _ (bs : List ℕ) (r : Record) (read : fields bs ≡ Ok (shown r)) where
 pub fault_read : (bs : List ℕ) (e : Fault) → fields bs ≡ Err e → checked bs ≡ Err e
 unfolding checked
 fault_read bs e h = ap (λ m. on_ok m late) h
+
+pub repeat_within : (r : Record) (o : Option ℕ) → Repeat (λ a b. a ≡ b) (map ends_of (links_of r)) o → IfSome o (λ j. j < length (links_of r))
+repeat_within r None h = tt
+repeat_within r (Some j) h = omega (arith, h.0, length-map (links_of r) ends_of)

@@ -7,6 +7,7 @@ pub mod Quotient
 pub mod Targets
 pub mod Reading
 pub mod Filled
+pub mod Filling
 pub mod Fields
 pub mod Accepted
 pub mod Bodies

@@ -17,7 +17,7 @@ holds_more (Some least) None os = refl
 holds_more (Some least) (Some place) os = refl
 
 -- the places from i on begin with the one at i
-from_place : (f : ℕ → Option ℕ) (ws : List ℕ) (i : ℕ) → i < length ws → drop i (map f ws) ≡ and_then (slice_get ws i) f ∷ drop (i + 1) (map f ws)
+pub from_place : (f : ℕ → Option ℕ) (ws : List ℕ) (i : ℕ) → i < length ws → drop i (map f ws) ≡ and_then (slice_get ws i) f ∷ drop (i + 1) (map f ws)
 from_place f [] i h = absurd (omega arith)
 from_place f (w ∷ ws) zero h = refl
 from_place f (w ∷ ws) (suc i) h = let e : suc i + 1 ≡ suc (i + 1) = omega arith in rw e (from_place f ws i (omega arith))

@@ -1,10 +1,10 @@
 -- One turn of the loops over a task's parameters.
-use Rattle.std.proofs.Common.{◌≡◌, ℕ, zero, suc, ◌+◌, ◌*◌, ◌/◌, ◌%◌, ◌<◌, ◌≤◌, List, [], ◌∷◌, ◌++◌, length, get_or, take, drop, set, Some, Option, sym, refl, ap, ◌∙◌, subst, mul_assoc, mul_comm, add-mul, arith}
+use Rattle.std.proofs.Common.{◌≡◌, ℕ, zero, suc, ◌+◌, ◌*◌, ◌/◌, ◌%◌, ◌<◌, ◌≤◌, List, [], ◌∷◌, ◌++◌, length, get_or, take, drop, set, Some, Option, sym, refl, ap, ◌∙◌, subst, mul_assoc, mul_comm, add-mul, arith, ◌^◌}
 use native.Mathlib.Nat.{div-div-eq-div-mul}
 use Rattle.std.proofs.lemmas.List.{at_drop_more, drop-set, get_or-take, get_or_at, length_push, take-take, take_at}
 use Rattle.std.proofs.lemmas.Nat.{mul-le}
 use Rattle.plans.specs.declared.param.Param.{Param}
-use Rattle.plans.specs.Words.{size, count, value_at, turn_of}
+use Rattle.plans.specs.Words.{base, word_of, size, count, value_at, turn_of}
 use Rattle.plans.proofs.Turns.{value_of_turn}
 use Rattle.plans.proofs.Mixed.{tuple_at, place_from, left_positive, right_positive}
 
@@ -19,7 +19,7 @@ some_left ps zero some = some
 some_left [] (suc i) some = some
 some_left (p ∷ ps) (suc i) some = some_left ps i (right_positive (size p) (count ps) some)
 
-some_size : (ps : List Param) (i : ℕ) (d : Param) → i < length ps → 0 < count ps → 0 < size (get_or ps i d)
+pub some_size : (ps : List Param) (i : ℕ) (d : Param) → i < length ps → 0 < count ps → 0 < size (get_or ps i d)
 some_size ps i d h some = left_positive (size (get_or ps i d)) (count (drop (i + 1) ps)) (subst (λ n. 0 < n) (count_step ps i d h) (some_left ps i some))
 
 -- a factor is no more than the product
@@ -88,3 +88,11 @@ below_end n c p e = grind arith
 
 pub past_end : (n c : ℕ) → (n / c ≡ 0 → ⊥) → c ≤ n
 past_end n c ne = grind arith
+
+pub word_of_four : (vs : List ℕ) → length vs ≡ 4 → get_or vs 0 0 * base ^ 3 + get_or vs 1 0 * base ^ 2 + get_or vs 2 0 * base + get_or vs 3 0 ≡ word_of vs
+word_of_four [] e = absurd (omega arith)
+word_of_four (a ∷ []) e = absurd (omega arith)
+word_of_four (a ∷ b ∷ []) e = absurd (omega arith)
+word_of_four (a ∷ b ∷ c ∷ []) e = absurd (omega arith)
+word_of_four (a ∷ b ∷ c ∷ d ∷ []) e = omega arith
+word_of_four (a ∷ b ∷ c ∷ d ∷ x ∷ vs) e = absurd (omega arith)

@@ -2,7 +2,7 @@
 use Rattle.std.proofs.Common.{◌≡◌, ℕ, zero, suc, ◌+◌, ◌-◌, ◌<◌, ◌≤◌, List, [], ◌∷◌, length, get_or, Some, sym, refl, ap, ◌∙◌, arith}
 use Rattle.std.specs.List.{slice_get}
 use Rattle.std.proofs.lemmas.Option.{slice_get-get_or, slice_get_within, same_Some, gets}
-use Rattle.plans.specs.declared.ends.Side.TheVariants.{Finish}
+use Rattle.plans.specs.declared.ends.Side.TheVariants.{Start, Finish}
 use Rattle.plans.specs.Plan.{Plan, Link, task_count, link_count, words_of, word_at}
 use Rattle.plans.specs.Ppo.{Next, Steps, Upto}
 use Rattle.plans.specs.Orders.{turn, link_of, no_reply, Turns, Single, order_of}
@@ -68,3 +68,6 @@ walked p alone differ t (suc n) j w vs (xs, nx, rest) e =
     let same = single_eq x y (sym is ∙ isy) in
     let place = differ t (k + 1) i x (there ∙ ap Some (sym same)) at in
     (v, isv, (k, here, omega arith))
+
+pub start_end : Start ≡ Finish → ⊥
+start_end e = let z : ◌≡◌ {A = ℕ} 0 1 = cc in omega arith

@@ -42,7 +42,7 @@ impl Record {
     fn ends(&self) -> Row<Ends, 64>
         ensures { items result ≡ map ends_of (links_of self.now) }
     {
-        let mut ends = Row::new(Ends::NONE);
+        let mut ends = Row::first([Ends::NONE; 64], 0);
         for link in self.links.items() {
             // there is room, since a record has no more links
             let _ = ends.push(link.ends);

@@ -7,8 +7,9 @@ ghost use Rattle.plans.specs.Decoded.{shown};
 use crate::fault::{Fault, Kind};
 use crate::links::read_tasks;
 use crate::parts::read_padding;
-use crate::read::read_row;
+use crate::read::fill_row;
 use crate::record::Record;
+use crate::room::Row;
 use crate::shapes::{Counts, Link, Name};
 use bits::Reader;
 
@@ -43,9 +44,11 @@ fn read_body(reader: &mut Reader, counts: Counts) -> Result<Record, Fault>
     ensures { ReadsAs shown (λ bs. body bs counts) reader.old result reader.new }
 {
     let tasks = read_tasks(reader, counts.tasks)?;
-    let links = read_row(reader, &tasks, counts.links, Link::NONE)?;
+    let mut links = Row::first([Link::NONE; 64], 0);
+    fill_row(reader, &tasks, counts.links, &mut links)?;
     read_padding(reader)?;
-    let names = read_row(reader, &(), counts.tasks, Name::NONE)?;
+    let mut names = Row::first([Name::NONE; 32], 0);
+    fill_row(reader, &(), counts.tasks, &mut names)?;
     Ok(Record {
         tasks,
         links,

@@ -5,7 +5,7 @@ ghost use Rattle.plans.specs.Targets.{quotient, sum, value_for, target_at, Divid
 use crate::param::Param;
 use crate::rule::Rule;
 use crate::task::Task;
-use crate::word::{Value, Word, push, values_of};
+use crate::word::{Value, Word, push, values_of, word_of};
 
 // The two tasks that a link joins, and its rules for the four parameters of a target.
 #[derive(Clone, Copy)]
@@ -53,15 +53,16 @@ impl Rule {
 
 impl Joined {
     // The target at a word.
+    #[inline(always)]
     pub(crate) fn target_at(&self, word: Word) -> Option<Word>
         ensures { result ≡ target_at self.now.from.params self.now.to.params self.now.each word }
     {
         self.from.place_of(word)?;
         let values = values_of(word);
-        let mut target = 0;
+        let mut target = [0; 4];
         for (rule, param) in self.each.iter().zip(&self.to.params) {
             target = push(target, rule.value_for(param, values)?);
         }
-        Some(target)
+        Some(word_of(target))
     }
 }

@@ -6,7 +6,7 @@ ghost use Rattle.plans.specs.Decoded.{tasks_of};
 
 use crate::ends::Ends;
 use crate::fault::{Fault, Kind};
-use crate::read::{Part, read_row};
+use crate::read::{Part, fill_row, read_row};
 use crate::room::Row;
 use crate::rule::Rule;
 use crate::shapes::{Link, Params};
@@ -18,7 +18,8 @@ pub(crate) fn read_tasks(reader: &mut Reader, count: usize) -> Result<Tasks, Fau
     requires { count ≤ 32 }
     ensures { ReadsAs tasks_of (λ bs. times count (task bs)) reader.old result reader.new }
 {
-    let each = read_row(reader, &(), count, Params::NONE)?;
+    let mut each = Row::first([Params::NONE; 32], 0);
+    fill_row(reader, &(), count, &mut each)?;
     Ok(Tasks { each })
 }
 

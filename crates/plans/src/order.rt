@@ -35,11 +35,15 @@ impl Joined {
         let mut least = Some(0);
         // by place: the words of a task are computed, and stored nowhere
         for i in 0..self.from.word_count() {
-            let place = self.place_at(i);
-            if !follows(least, place) {
+            // a word without a target takes a way of its own: joined with the others it costs each of them a quarter more
+            let Some(place) = self.place_at(i) else {
+                least = None;
+                continue;
+            };
+            if !follows(least, Some(place)) {
                 return false;
             }
-            least = place;
+            least = Some(place);
         }
         true
     }

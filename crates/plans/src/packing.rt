@@ -25,10 +25,10 @@ use crate::word::Word;
 fn empty() -> Record
     ensures { shown result ≡ record { tasks = []; links = []; names = [] } }
 {
-    let each = Row::new(Params::NONE);
+    let each = Row::first([Params::NONE; 32], 0);
     let tasks = Tasks { each };
-    let links = Row::new(Link::NONE);
-    let names = Row::new(Name::NONE);
+    let links = Row::first([Link::NONE; 64], 0);
+    let names = Row::first([Name::NONE; 32], 0);
     Record {
         tasks,
         links,
@@ -66,13 +66,12 @@ impl<'a> Packed<'a> {
         ensures parts { shown result.parts ≡ parts_or (checked bytes.now) }
         ensures terms { Terms bytes.now (plan_of (shown result.parts)) }
     {
-        match Packed::try_from(bytes) {
-            Ok(plan) => plan,
-            Err(_) => Packed {
-                bytes,
-                parts: empty(),
-            },
-        }
+        // not by `try_from`, whose answer would be moved twice more
+        let parts = match decode(bytes) {
+            Ok(parts) => parts,
+            Err(_) => empty(),
+        };
+        Packed { bytes, parts }
     }
 
     // A task's name, as that part of the record.
@@ -140,6 +139,8 @@ impl<'a> Source for Packed<'a> {
     }
 
     fn target(&self, link: usize, word: Word) -> Option<Word> {
-        self.parts.joined(link)?.target_at(word)
+        // by a reference, since the two tasks and the rules are dear to move
+        let joined = self.parts.joined(link);
+        joined.as_ref()?.target_at(word)
     }
 }

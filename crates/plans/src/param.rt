@@ -52,8 +52,9 @@ impl Param {
     pub(crate) fn in_range(&self, n: i32) -> Option<Value>
         ensures { result ≡ in_range self.now n }
     {
-        let range = self.low..=self.high;
-        let value = Value::try_from(n).ok()?;
-        range.contains(&value).then_some(value)
+        if !(i32::from(self.low)..=i32::from(self.high)).contains(&n) {
+            return None;
+        }
+        Some(n as Value)
     }
 }

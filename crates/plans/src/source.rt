@@ -10,6 +10,9 @@ pub trait Source {
     // the plan that the source means
     ghost plan: { Self → Plan };
 
+    // it keeps the rules of plans: above the questions, so that a caller of a `dyn Source` knows it too
+    ghost keeps: { (x : Self) → Keeps (plan x) };
+
     fn task_count(&self) -> usize
         ensures { result ≡ task_count (plan self.now) };
 
@@ -38,7 +41,4 @@ pub trait Source {
     // What a link gives at a word of the task that it goes from.
     fn target(&self, link: usize, word: Word) -> Option<Word>
         ensures { result ≡ target (plan self.now) link word };
-
-    // it keeps the rules of plans
-    ghost keeps: { (x : Self) → Keeps (plan x) };
 }

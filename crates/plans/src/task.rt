@@ -52,6 +52,7 @@ impl Task {
     }
 
     // The word at a place.
+    #[inline(always)]
     pub(crate) fn word_at(&self, place: u32) -> Option<Word>
         ensures { result ≡ slice_get (words self.now.params) place }
     {
@@ -70,6 +71,7 @@ impl Task {
     }
 
     // The place of a word.
+    #[inline(always)]
     pub(crate) fn place_of(&self, word: Word) -> Option<u32>
         ensures value { result ≡ place_in (words self.now.params) word }
         ensures within { IfSome result (λ i. i < length (words self.now.params)) }

@@ -15,13 +15,15 @@ pub(crate) fn values_of(word: Word) -> [Value; 4]
     word.to_be_bytes()
 }
 
-// A word with one value more behind its values, of which there are at most three.
-pub(crate) fn push(word: Word, value: Value) -> Word
-    requires { word < 2 ^ 24 }
-    ensures value { result ≡ word * base + value }
-    ensures bound { result < (word + 1) * base }
+// Four values with one more behind them, of which at most the last three are used: bytes stay bytes, so that a word that is taken
+// apart again costs nothing.
+pub(crate) fn push(values: [Value; 4], value: Value) -> [Value; 4]
+    requires { word_of values < 2 ^ 24 }
+    ensures value { word_of result ≡ word_of values * base + value }
+    ensures bound { word_of result < (word_of values + 1) * base }
 {
-    word * 256 + Word::from(value)
+    let [_, second, third, fourth] = values;
+    [second, third, fourth, value]
 }
 
 // The word that holds four values, the first on top.

@@ -163,7 +163,7 @@ pub shown_conf : (p : Plan) (slots : List Slot) (cs : List Call) → Shows p slo
 shown_conf p slots cs s = subst (Configuration p) s.same (always_a_configuration p cs)
 
 module _ (p : Plan) (kp : Keeps p) (slots : List Slot) (e : Event) (r : Result (Unit {0}) Refusal) (left : List Slot) where
-  post_answers : r ≡ post_by p slots e → left ≡ posted_by p slots e → Answers p slots (Post e) (told r) left
+  pub post_answers : r ≡ post_by p slots e → left ≡ posted_by p slots e → Answers p slots (Post e) (told r) left
   unfolding reply
   post_answers a b =
       record {
@@ -176,7 +176,7 @@ module _ (p : Plan) (kp : Keeps p) (slots : List Slot) (e : Event) (r : Result (
             (subst (λ (ss : List Slot). Shows p ss (after p (held p (counts p slots)) (Post e))) (sym b) (post_leaves p kp slots s.fit (shown_conf p slots cs s) e)));
       }
 
-  take_back_answers : r ≡ take_back_by p slots e → left ≡ taken_back_by p slots e → Answers p slots (TakeBack e) (told r) left
+  pub take_back_answers : r ≡ take_back_by p slots e → left ≡ taken_back_by p slots e → Answers p slots (TakeBack e) (told r) left
   unfolding reply
   take_back_answers a b =
       record {
@@ -190,7 +190,7 @@ module _ (p : Plan) (kp : Keeps p) (slots : List Slot) (e : Event) (r : Result (
       }
 
 -- A refused call leaves the slots.
-refused_leaves : (r x : Result (Unit {0}) Refusal) (slots left new : List Slot) → r ≡ x → left ≡ cond (is_ok x) new slots → is_ok r ≡ false → left ≡ slots
+pub refused_leaves : (r x : Result (Unit {0}) Refusal) (slots left new : List Slot) → r ≡ x → left ≡ cond (is_ok x) new slots → is_ok r ≡ false → left ≡ slots
 refused_leaves r x slots left new a b h = b ∙ ap (λ (y : Bool). cond y new slots) (sym (ap is_ok a) ∙ h)
 
 told_refused : (r : Result (Unit {0}) Refusal) (x : Refusal) → told r ≡ refused x → is_ok r ≡ false

@@ -1,7 +1,7 @@
 -- What the rules of a plan give of its replies, and the steps of the loops over links and tasks.
-use Rattle.std.proofs.Common.{◌≡◌, ℕ, zero, suc, ◌+◌, ◌<◌, ◌≤◌, Bool, true, false, ◌&&◌, List, [], ◌∷◌, ◌++◌, length, get_or, Some, unwrap_or, sym, refl, ap, ◌∙◌, subst, add-one, arith, rules}
+use Rattle.std.proofs.Common.{◌≡◌, ℕ, zero, suc, ◌+◌, ◌<◌, ◌≤◌, Bool, true, false, ◌&&◌, List, [], ◌∷◌, ◌++◌, length, get_or, Some, unwrap_or, sym, refl, ap, ◌∙◌, subst, add-one, arith, rules, set, ◌≢◌, get_or-set_other}
 use Rattle.std.proofs.lemmas.List.Folds.{list_all-append}
-use Rattle.std.proofs.lemmas.List.{same_lists}
+use Rattle.std.proofs.lemmas.List.{get_or_past, same_lists}
 use Rattle.std.proofs.lemmas.Option.{slice_get_within}
 use Rattle.std.proofs.lemmas.Bool.{and_from}
 use Rattle.std.specs.Array.{IsFromFnResult, IsFromFnResultFrom}
@@ -11,7 +11,7 @@ use Rattle.std.specs.List.{slice_get, list_all, range_with_len}
 use Rattle.plans.specs.declared.ends.Ends.{Ends}
 use Rattle.plans.specs.Plan.{Plan, Keeps, words_of, word_at, task_count, place_of, link_ends}
 use Rattle.runs.specs.declared.table.Slot.{Slot}
-use Rattle.runs.specs.Slots.{fresh, opened_from, opened}
+use Rattle.runs.specs.Slots.{fresh, blank, opened_from, opened}
 use Rattle.runs.proofs.Places.{place_word}
 use Rattle.plans.proofs.Places.{option_map_some}
 
@@ -84,6 +84,9 @@ module _ {F X : Type 0} (g : Mut F (ℕ × Unit {0}) X) (f : F) (value : ℕ →
   pub made_at : (n : ℕ) → IsFromFnResult g f xs n → (k : ℕ) → k < n → (d : X) → get_or xs k d ≡ value k
   made_at n made k h d = let here : 0 + k ≡ k = omega arith in rw here at (made_from 0 n made.each k h d)
 
+pub first_past : (p : Plan) (t : ℕ) → task_count p ≤ t → fresh (unwrap_or (word_at p t 0) 0) ≡ blank
+first_past p t h = let e : words_of p t ≡ [] = get_or_past p.tasks t [] h in ap (λ (ws : List ℕ). fresh (unwrap_or (slice_get ws 0) 0)) e
+
 pub opened_length : (p : Plan) (t n : ℕ) → length (opened_from p t n) ≡ n
 opened_length p t zero = refl
 opened_length p t (suc n) = ap suc (opened_length p (suc t) n)
@@ -97,3 +100,6 @@ pub is_opened : (p : Plan) (ss : List Slot) → length ss ≡ 64 → ((t : ℕ) 
 is_opened p ss long at =
     same_lists ss (opened p) (long ∙ sym (opened_length p 0 64))
     (λ k d h. at k (omega (arith, long)) d ∙ ap (λ (u : ℕ). fresh (unwrap_or (word_at p u 0) 0)) (let e : k ≡ 0 + k = omega arith in e) ∙ sym (opened_at p 0 64 k d (omega (arith, long))))
+
+pub rest_more : {X : Type 0} (xs : List X) (d e : X) (i : ℕ) (x : X) → ((t : ℕ) → i ≤ t → get_or xs t d ≡ e) → (t : ℕ) → i + 1 ≤ t → get_or (set xs i x) t d ≡ e
+rest_more xs d e i x all t l = let ne : t ≢ i = omega arith in rw get_or-set_other (all t (omega arith))

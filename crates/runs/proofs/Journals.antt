@@ -60,20 +60,20 @@ from_opening p slots calls rs left s a = a.replied [] s
 
 -- One element more at the end of a list that starts at `from`.
 module _ (room : List (Result Answer Refusal)) (from at : ℕ) (x : Result Answer Refusal) (h : from ≤ at) (lt : at < length room) where
-  new_more : map said (drop from (take (at + 1) (set room at x))) ≡ map said (drop from (take at room)) ++ (said x ∷ [])
+  pub new_more : map said (drop from (take (at + 1) (set room at x))) ≡ map said (drop from (take at room)) ++ (said x ∷ [])
   new_more =
       ap (λ (xs : List (Result Answer Refusal)). map said (drop from xs)) (take_more_set room at x lt)
       ∙ ap (map said) (drop-append-le from (take at room) (x ∷ []) (omega (arith, length-take-le at room (omega arith))))
       ∙ map-append said (drop from (take at room)) (x ∷ [])
 
-  front_more : take from (set room at x) ≡ take from room
+  pub front_more : take from (set room at x) ≡ take from room
   front_more = take-set-le from room at x h
 
-  beyond_more : (old : List (Result Answer Refusal)) → drop at room ≡ drop at old → drop (at + 1) (set room at x) ≡ drop (at + 1) old
+  pub beyond_more : (old : List (Result Answer Refusal)) → drop at room ≡ drop at old → drop (at + 1) (set room at x) ≡ drop (at + 1) old
   beyond_more old q =
       drop-set-lt (at + 1) room at x (omega arith) ∙ sym (drop-drop 1 at room) ∙ ap (drop 1) q ∙ drop-drop 1 at old
 
-nothing_new : (room : List (Result Answer Refusal)) (at : ℕ) → at ≤ length room → map said (drop at (take at room)) ≡ []
+pub nothing_new : (room : List (Result Answer Refusal)) (at : ℕ) → at ≤ length room → map said (drop at (take at room)) ≡ []
 nothing_new room at h = ap (map said) (drop_all at (take at room) (omega (arith, length-take-le at room h)))
 
 -- The first i calls are answered, and their answers are added to a list that had room for all.
@@ -117,3 +117,6 @@ told_more p slots mid left calls i old room new call x lt t b is h named =
 pub told_all : (p : Plan) (slots left : List Slot) (calls : List Call) (i : ℕ) (old new : lent.List (Result Answer Refusal)) → length calls ≤ i → Told p slots left calls i old new
     → AnswersAll p slots calls (map said (added old new)) left
 told_all p slots left calls i old new all t = subst (λ (cs : List Call). AnswersAll p slots cs (map said (added old new)) left) (take_all i calls all) t.answers
+
+pub of_calls : {p : Plan} {slots : List Slot} {rs : List Reply} {left : List Slot} (cs ds : List Call) → cs ≡ ds → AnswersAll p slots cs rs left → AnswersAll p slots ds rs left
+of_calls {p} {slots} {rs} {left} cs ds e a = subst (λ (x : List Call). AnswersAll p slots x rs left) e a

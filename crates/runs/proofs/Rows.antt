@@ -1,5 +1,5 @@
 -- The steps of the loops that write the state table and the ready list.
-use Rattle.std.proofs.Common.{◌≡◌, ℕ, zero, suc, ◌+◌, ◌*◌, ◌≤◌, List, [], ◌∷◌, ◌++◌, length, take, drop, Option, sym, refl, ap, ◌∙◌, ap₂, append_assoc, add-one, arith, length-append, length-take-le, take_all, take_at}
+use Rattle.std.proofs.Common.{take-append-drop, ◌≡◌, ℕ, zero, suc, ◌+◌, ◌*◌, ◌≤◌, List, [], ◌∷◌, ◌++◌, length, take, drop, Option, sym, refl, ap, ◌∙◌, ap₂, append_assoc, add-one, arith, length-append, length-take-le, take_all, take_at}
 use lib.Seq.{paste, take-paste, drop-paste}
 use Rattle.std.proofs.lemmas.List.Edits.{length-paste, paste-paste}
 use Rattle.plans.specs.declared.event.Event.{Event}
@@ -65,3 +65,6 @@ module _ {X : Type 0} (room xs : List X) (at n : ℕ) (h : at + n ≤ length roo
 
   pub listed_beyond : drop (at + n) (paste room at xs n) ≡ drop (at + n) room
   listed_beyond = drop-paste room at xs n (omega arith) (omega arith)
+
+pub front_rest : {X : Type 0} (out old front : List X) (n : ℕ) → take n out ≡ front → drop n out ≡ drop n old → out ≡ front ++ drop n old
+front_rest out old front n f r = sym (take-append-drop n out) ∙ ap (λ x. x ++ drop n out) f ∙ ap (λ x. front ++ x) r

@@ -139,3 +139,6 @@ among_append_cases [] fs d h = inr h
 among_append_cases (e ∷ es) fs d h =
     ⊎_elim (λ q. inl (subst (λ (x : Event). among (e ∷ es) x ≡ true) (sym q) (among_here e es)))
     (λ q. ⊎_elim (λ r. inl (among_there e d es r)) (λ r. inr r) (among_append_cases es fs d q)) (among_cases e d (es ++ fs) h)
+
+pub kept_none : (f : Event → Bool) (es : List Event) (d : Event) → kept f es ≡ [] → among es d ≡ true → f d ≡ true → ⊥
+kept_none f es d n h k = nothing_among d (subst (λ (xs : List Event). among xs d ≡ true) n (among_kept f es d h k))

@@ -70,6 +70,7 @@ impl<S: Source> View<'_, S> {
     }
 
     // The place from which on a link holds back the events of a type.
+    #[inline(always)]
     pub(crate) fn bound(&self, events: EventType, link: usize) -> Option<u32>
         ensures { result ≡ link_bound (S.plan self.now.source.now) self.now.table.now.slots events link }
     {

@@ -46,6 +46,7 @@ impl<'a, T: Copy> List<'a, T> {
     }
 
     // All the elements of `items`; where there is no room for all of them, no change.
+    #[inline(always)]
     pub fn append(&mut self, items: &[T]) -> Result<(), Full>
         ensures full { length self.old.room.now < self.old.len + length items.now → (result ≡ Err (record {})) × Holds self.new self.old.len self.old.room.now }
         ensures appended { self.old.len + length items.now ≤ length self.old.room.now → (result ≡ Ok tt) × Holds self.new (self.old.len + length items.now) (paste self.old.room.now self.old.len items.now (length items.now)) }

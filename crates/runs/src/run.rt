@@ -16,9 +16,8 @@ use crate::lent::List;
 use crate::play::finished;
 use crate::player::play;
 use crate::refusal::{Outcome, Refusal};
-use crate::table::{Slot, Table};
+use crate::table::Table;
 use plans::{Event, Row, Side, Source};
-use std::array;
 
 // A run: a plan source, and what stands of its plan.
 #[derive(Drop)]
@@ -34,11 +33,7 @@ impl<S: Source> Run<S> {
         ensures empty { Shows (S.plan source) result.table.slots (standing (S.plan source) []) }
         ensures laws { LawsOfRuns (S.plan source) }
     {
-        let slots = array::from_fn(|task| {
-            let word = source.word_at(task, 0).unwrap_or(0);
-            Slot::new(word)
-        });
-        let table = Table { slots };
+        let table = Table::opened(&source);
         Run { source, table }
     }
 
@@ -62,11 +57,12 @@ impl<S: Source> Run<S> {
     fn found(&self) -> Row<Event, 64>
         ensures { items result ≡ ready_to (S.plan self.now.source) self.now.table.slots (task_count (S.plan self.now.source)) }
     {
-        let mut found = Row::new(Event {
+        let none = Event {
             task: 0,
             side: Side::Start,
             word: 0,
-        });
+        };
+        let mut found = Row::first([none; 64], 0);
         let view = View {
             source: &self.source,
             table: &self.table,

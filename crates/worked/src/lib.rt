@@ -1,10 +1,12 @@
 // Worked records and plans, and what is proved of them from the definitions alone.
 #![tactic(auto)]
 
-ghost use Rattle.std.specs.Prelude.{◌≡◌};
+ghost use Rattle.std.specs.Prelude.{◌≡◌, ◌≤◌};
 ghost use Rattle.worked.specs.Orders.{circled};
 ghost use Rattle.worked.specs.Records.{pipelined};
 ghost use Rattle.worked.specs.Worked.{WorkedExamples};
+
+use plans::Source;
 
 // Tasks cc and ld run from 1 to 3; ld at p waits for cc at p, and cc at p + 2 for ld at p.
 pub fn pipeline() -> [u8; 21]
@@ -19,4 +21,11 @@ pub fn circle() -> [u8; 10]
     ensures { result ≡ circled }
 {
     *b"\x10\x81\x00\x08\x41\x80\x01a\x01b"
+}
+
+// How many tasks a source has, whatever it is: its plan keeps the rules, so they are 64 at most. A caller behind a pointer knows that too.
+pub fn few_tasks(source: &dyn Source) -> usize
+    ensures { result ≤ 64 }
+{
+    source.task_count()
 }

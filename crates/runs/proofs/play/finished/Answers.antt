@@ -17,7 +17,7 @@ all_taken ss (suc t) h =
 
 pub returns : goal.returns
 returns g c =
-    let keeps = g.met.S.Source.keeps c.args.source.now in
+    let keeps = g.S.Source.keeps c.args.source.now in
     let ss = c.args.table.now.slots in
     let n = c.task_count-tasks.result in
     let is = all_from_yields_List (λ (s : Slot). s.done) _ _ _ c.all.ensures.ran (YieldsList-from_slice (take n ss) cc) (λ x b q k. search (rules, tests)) in

@@ -14,8 +14,8 @@ small Done = omega arith
 
 pub overflow_mul-result : goal.overflow_mul-result
 overflow_mul-result g c =
-    omega (arith, place_known _ (g.met.S.Source.keeps c.args.self.now.source.now) _ _ c.in-Some.place c.in-Some.ensures)
+    omega (arith, place_known _ (g.S.Source.keeps c.args.self.now.source.now) _ _ c.in-Some.place c.in-Some.ensures)
 
 pub overflow_add-result : goal.overflow_add-result
 overflow_add-result g c =
-    omega (arith, place_known _ (g.met.S.Source.keeps c.args.self.now.source.now) _ _ c.in-Some.place c.in-Some.ensures, small c.phase.result)
+    omega (arith, place_known _ (g.S.Source.keeps c.args.self.now.source.now) _ _ c.in-Some.place c.in-Some.ensures, small c.phase.result)

@@ -10,7 +10,7 @@ use Rattle.runs.proofs.checks.View.limits.Goals as goal
 pub loop-at-init : goal.loop-at-init
 loop-at-init g c =
     let p = g.S.Source.plan c.args.self.now.source.now in
-    let keeps = g.met.S.Source.keeps c.args.self.now.source.now in
+    let keeps = g.S.Source.keeps c.args.self.now.source.now in
     let t = c.args.task in
     let n = link_count p in
     let is : (links_at c.args.routes.now.tasks t).last ≡ last_into p t n = c.requires.routed.last_at t (omega (arith, c.requires.known, keeps.few_tasks)) in

@@ -22,7 +22,7 @@ loop-event-init g c = (stay, c.limits-limits.ensures, λ h. sym c.in-Some.ensure
 pub returns-then-self-clause-played : goal.returns-then-self-clause-played
 returns-then-self-clause-played g c =
     let p = (g.S.Source.plan c.loop-event.self.source.now) in
-    let keeps = (g.met.S.Source.keeps c.loop-event.self.source.now) in
+    let keeps = (g.S.Source.keeps c.loop-event.self.source.now) in
     let i = c.loop-event.invariant in
     let ready = c.in-Some-next_below.ensures ∙ below_ready p keeps c.loop-event.self.table.now.slots c.args.task _ _ i.3 i.1 i.2 in
     let o = plays_over p _ _ _ _ c.args.self.now.budget c.args.task c.in-Some-next_below.event i.0 ready (c.if-self.true ∙ i.6) in
@@ -31,7 +31,7 @@ returns-then-self-clause-played g c =
 pub overflow_add-place : goal.overflow_add-place
 overflow_add-place g c =
     let p = (g.S.Source.plan c.loop-event.self.source.now) in
-    let keeps = (g.met.S.Source.keeps c.loop-event.self.source.now) in
+    let keeps = (g.S.Source.keeps c.loop-event.self.source.now) in
     let k = slot_of c.loop-event.self.table.now.slots c.args.task in
     let to_come = below_undone c.args.task k _ _ c.in-Some-next_below.event c.in-Some-next_below.ensures in
     omega (arith, place_known p keeps c.args.task k.word c.loop-event.place (sym (c.loop-event.invariant.2 to_come.0)))
@@ -39,7 +39,7 @@ overflow_add-place g c =
 pub invariant_of-self-in-Some-next_below : goal.invariant_of-self-in-Some-next_below
 invariant_of-self-in-Some-next_below g c =
     let p = (g.S.Source.plan c.loop-event.self.source.now) in
-    let keeps = (g.met.S.Source.keeps c.loop-event.self.source.now) in
+    let keeps = (g.S.Source.keeps c.loop-event.self.source.now) in
     let i = c.loop-event.invariant in
     let ss = c.loop-event.self.table.now.slots in
     let t = c.args.task in
@@ -56,7 +56,7 @@ invariant_of-self-in-Some-next_below g c =
 pub loop-event-preserved : goal.loop-event-preserved
 loop-event-preserved g c =
     let p = (g.S.Source.plan c.loop-event.self.source.now) in
-    let keeps = (g.met.S.Source.keeps c.loop-event.self.source.now) in
+    let keeps = (g.S.Source.keeps c.loop-event.self.source.now) in
     let i = c.loop-event.invariant in
     let ss = c.loop-event.self.table.now.slots in
     let t = c.args.task in
@@ -81,7 +81,7 @@ loop-event-preserved g c =
 pub returns-clause-played : goal.returns-clause-played
 returns-clause-played g c =
     let p = (g.S.Source.plan c.loop-event.self.source.now) in
-    let keeps = (g.met.S.Source.keeps c.loop-event.self.source.now) in
+    let keeps = (g.S.Source.keeps c.loop-event.self.source.now) in
     let i = c.loop-event.invariant in
     let none = c.in_default-next_below.ensures ∙ below_ready p keeps c.loop-event.self.table.now.slots c.args.task _ _ i.3 i.1 i.2 in
     (rw i.5 at i.0, omega (arith, c.loop-event.self.within, i.6), rw i.5 at (sym none))

@@ -6,7 +6,7 @@ use Rattle.runs.proofs.run.Run.found.Goals.{in-Some, in_default}
 
 pub unwrap-requires : goal.unwrap-requires
 unwrap-requires g c =
-    let few = (g.met.S.Source.keeps c.args.self.now.source).few_tasks in
+    let few = (g.S.Source.keeps c.args.self.now.source).few_tasks in
     let pushed = c.push.ensures.pushed (omega (arith, c.task_count-task-end.ensures)) in
     search rules
 
@@ -14,7 +14,7 @@ pub loop-task-preserved : goal.loop-task-preserved
 loop-task-preserved g c =
     let p = g.S.Source.plan c.args.self.now.source in
     let ss = c.args.self.now.table.slots in
-    let few = (g.met.S.Source.keeps c.args.self.now.source).few_tasks in
+    let few = (g.S.Source.keeps c.args.self.now.source).few_tasks in
     elim c.match-ready_event.branch [
       | in-Some w ↦
           let pushed = w.push.ensures.pushed (omega (arith, c.task_count-task-end.ensures)) in

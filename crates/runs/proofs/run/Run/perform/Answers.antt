@@ -10,7 +10,7 @@ use Rattle.runs.proofs.run.Run.perform.Goals as goal
 pub returns-then-room-items : goal.returns-then-room-items
 returns-then-room-items g c =
     let p = g.S.Source.plan c.args.self.now.source in
-    let keeps = g.met.S.Source.keeps c.args.self.now.source in
+    let keeps = g.S.Source.keeps c.args.self.now.source in
     record {
       performed = performs refl (as_call (ReadyList c.in-ReadyList.room) c.args.call c.in-ReadyList.is
           (ready_refused p keeps c.args.self.now.table.slots c.in-ReadyList.room (omega (arith, ap length c.items.ensures, ap length c.found-found.ensures))));
@@ -19,7 +19,7 @@ returns-then-room-items g c =
 pub returns-else-room-items : goal.returns-else-room-items
 returns-else-room-items g c =
     let p = g.S.Source.plan c.args.self.now.source in
-    let keeps = g.met.S.Source.keeps c.args.self.now.source in
+    let keeps = g.S.Source.keeps c.args.self.now.source in
     record {
       performed = performs refl (as_call (ReadyList c.in-ReadyList.room) c.args.call c.in-ReadyList.is
           (ready_answers p keeps c.args.self.now.table.slots c.in-ReadyList.room _ (omega (arith, ap length c.items.ensures)) c.found-found.ensures));
@@ -28,7 +28,7 @@ returns-else-room-items g c =
 pub returns-then-room-len : goal.returns-then-room-len
 returns-then-room-len g c =
     let p = g.S.Source.plan c.args.self.now.source in
-    let keeps = g.met.S.Source.keeps c.args.self.now.source in
+    let keeps = g.S.Source.keeps c.args.self.now.source in
     record {
       performed = performs refl (as_call (StateTable c.in-StateTable.room) c.args.call c.in-StateTable.is
           (table_refused p keeps c.args.self.now.table.slots c.in-StateTable.room (omega (arith, c.task_count-len.ensures))));
@@ -37,7 +37,7 @@ returns-then-room-len g c =
 pub returns-in_err-state_table-in-StateTable : goal.returns-in_err-state_table-in-StateTable
 returns-in_err-state_table-in-StateTable g c =
     let p = g.S.Source.plan c.args.self.now.source in
-    let few = (g.met.S.Source.keeps c.args.self.now.source).few_tasks in
+    let few = (g.S.Source.keeps c.args.self.now.source).few_tasks in
     let ss = c.args.self.now.table.slots in
     record {
       performed = performs refl (as_call (StateTable c.in-StateTable.room) c.args.call c.in-StateTable.is
@@ -48,7 +48,7 @@ returns-in_err-state_table-in-StateTable g c =
 pub returns-in_ok-state_table-in-StateTable : goal.returns-in_ok-state_table-in-StateTable
 returns-in_ok-state_table-in-StateTable g c =
     let p = g.S.Source.plan c.args.self.now.source in
-    let few = (g.met.S.Source.keeps c.args.self.now.source).few_tasks in
+    let few = (g.S.Source.keeps c.args.self.now.source).few_tasks in
     let ss = c.args.self.now.table.slots in
     let count = c.task_count-len.ensures in
     record {

@@ -8,7 +8,7 @@ use Rattle.runs.proofs.run.Run.ready.Goals as goal
 pub returns-in_err-append-clause-performed : goal.returns-in_err-append-clause-performed
 returns-in_err-append-clause-performed g c =
     let p = g.S.Source.plan c.args.self.now.source in
-    let keeps = g.met.S.Source.keeps c.args.self.now.source in
+    let keeps = g.S.Source.keeps c.args.self.now.source in
     let ss = c.args.self.now.table.slots in
     performs refl (subst (λ (r : Reply). Answers p ss (ReadyList (length c.args.out.now.room.now - c.args.out.now.len)) r ss) (sym (no_room _ _ c.from_residual.ensures.1))
     (ready_kept p keeps ss c.args.out.now c.append.new.self _ c.append.result c.append.ensures.full c.append.ensures.appended (cc) _ c.in_err-append.was))
@@ -16,5 +16,5 @@ returns-in_err-append-clause-performed g c =
 pub returns-clause-performed : goal.returns-clause-performed
 returns-clause-performed g c =
     let p = g.S.Source.plan c.args.self.now.source in
-    let keeps = g.met.S.Source.keeps c.args.self.now.source in
+    let keeps = g.S.Source.keeps c.args.self.now.source in
     performs refl (ready_added p keeps c.args.self.now.table.slots c.args.out.now c.append.new.self _ c.append.result c.append.ensures.full c.append.ensures.appended (cc) c.in_ok-append.was)

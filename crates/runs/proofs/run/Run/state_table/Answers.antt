@@ -12,7 +12,7 @@ use Rattle.runs.proofs.run.Run.state_table.Goals as goal
 pub returns-then-out-tasks-clause-performed : goal.returns-then-out-tasks-clause-performed
 returns-then-out-tasks-clause-performed g c =
     let p = g.S.Source.plan c.args.self.now.source in
-    let keeps = g.met.S.Source.keeps c.args.self.now.source in
+    let keeps = g.S.Source.keeps c.args.self.now.source in
     performs refl (table_refused p keeps c.args.self.now.table.slots (length c.args.out.now) (omega (arith, c.task_count-tasks.ensures)))
 
 pub loop-slot-preserved : goal.loop-slot-preserved
@@ -38,7 +38,7 @@ returns-in_err-append g c =
 pub returns : goal.returns
 returns g c =
     let p = g.S.Source.plan c.args.self.now.source in
-    let keeps = g.met.S.Source.keeps c.args.self.now.source in
+    let keeps = g.S.Source.keeps c.args.self.now.source in
     let ss = c.args.self.now.table.slots in
     let n = task_count p in
     let room : 5 * n ≤ length c.args.out.now = omega (arith, c.task_count-tasks.ensures) in

@@ -6,7 +6,7 @@ use Rattle.runs.proofs.run.Run.take_back.Goals as goal
 pub returns : goal.returns
 returns g c =
     let p = g.S.Source.plan c.args.self.now.source in
-    let keeps = g.met.S.Source.keeps c.args.self.now.source in
+    let keeps = g.S.Source.keeps c.args.self.now.source in
     let ss = c.args.self.now.table.slots in
     let left = c.take_back.new.self.slots in
     record {
