@@ -35,7 +35,7 @@ impl Joined {
         let mut least = Some(0);
         // by place: the words of a task are computed, and stored nowhere
         for i in 0..self.from.word_count() {
-            // a word without a target takes a way of its own: joined with the others it costs each of them a quarter more
+            // without a target here none may come after it
             let Some(place) = self.place_at(i) else {
                 least = None;
                 continue;
